@@ -1,0 +1,108 @@
+-- Each call's effect on a kind's sum, for an arbitrary kind: settling keeps it, issuing and redeeming change it by their count.
+use mathlib.Core.Path.{_≡_, refl, sym, ap, ap₂, _∙_, subst}
+use mathlib.Core.Bool.{Bool, true, false, _&&_}
+use mathlib.Core.List.{List, [], _∷_, _++_}
+use Prim.Native.Nat.{ℕ, _+_, _*_, _≤_}
+use native.Mathlib.Omega.{arith}
+use lib.Dec.{T, eqb, leb, eqb→eq, leb→le}
+use lib.ListN.{length}
+use Rattle.model.specs.Limits.{cardLimit, sumLimit}
+use Rattle.model.specs.Lists.{oneIf}
+use Rattle.model.specs.Questions.{ok, Told, done, _⇒_}
+use Rattle.model.specs.Book.{Book, declared}
+use Rattle.model.specs.Transfers.{exchangeOf}
+use Rattle.model.specs.Holdings.{State, sumTo, total}
+use Rattle.model.specs.Calls.{Call, issue, redeem, query, settle, accountQuestions, replyTo, amount, issues, redeems, brings, takes, changed, after}
+use Rattle.model.proofs.Tests.{eq-T, eqb-same, within→}
+use Rattle.model.proofs.Questions.{inOrder-ok}
+use Rattle.model.proofs.Sums.{sum-add, sum-same, sum-zero, sum-point, and-scale, given-is-received, covered→}
+use Rattle.model.proofs.Settling.{settled-ok}
+
+-- ---- a call that is not refused takes no more than there is
+
+amount-le : (s : State) (c k n d j : ℕ) → n ≤ s .held c k → amount c k n d j ≤ s .held d j
+amount-le s c k n d j h = go (eqb c d) (eqb k j) refl refl
+  where
+    go : (x y : Bool) → eqb c d ≡ x → eqb k j ≡ y → oneIf (x && y) * n ≤ s .held d j
+    go true true e f = omega (arith, subst (λ (z : ℕ). n ≤ z) (ap₂ (s .held) (eqb→eq c d (eq-T e)) (eqb→eq k j (eq-T f))) h)
+    go true false e f = omega arith
+    go false y e f = omega arith
+
+pub takes-le : (b : Book) (s : State) (call : Call) (t : Told) → replyTo b s call ≡ ok t → (d j : ℕ) → redeems call d j + takes call d j ≤ s .held d j
+unfolding replyTo
+takes-le b s (issue c k n) t h d j = omega arith
+takes-le b s (redeem c k n) t h d j =
+    let q = inOrder-ok (accountQuestions b c k ++ ((11 ⇒ leb n (s .held c k)) ∷ [])) 0 (ok done) t h in
+    omega (arith, amount-le s c k n d j (leb→le n (s .held c k) (q .0 .1 .1 .0)))
+takes-le b s (query c k) t h d j = omega arith
+takes-le b s (settle e p) t h d j = omega (arith, covered→ s (exchangeOf e) (settled-ok b s e p t h .covered) d j)
+
+-- ---- the sums
+
+-- what is taken and what is left are what was there and what came
+balance : (s : State) (call : Call) → ((d j : ℕ) → redeems call d j + takes call d j ≤ s .held d j) → (k : ℕ)
+    → total (changed s call) k + (sumTo (λ c. redeems call c k) cardLimit + sumTo (λ c. takes call c k) cardLimit)
+    ≡ total s k + (sumTo (λ c. issues call c k) cardLimit + sumTo (λ c. brings call c k) cardLimit)
+balance s call h k = go cardLimit
+  where
+    go : (n : ℕ) → sumTo (λ c. changed s call .held c k) n + (sumTo (λ c. redeems call c k) n + sumTo (λ c. takes call c k) n)
+        ≡ sumTo (λ c. s .held c k) n + (sumTo (λ c. issues call c k) n + sumTo (λ c. brings call c k) n)
+    go n =
+        let l = sum-add (λ c. redeems call c k + takes call c k) (λ c. redeems call c k) (λ c. takes call c k) n (λ c. refl) in
+        let r = sum-add (λ c. issues call c k + brings call c k) (λ c. issues call c k) (λ c. brings call c k) n (λ c. refl) in
+        let x = sum-add (λ c. s .held c k + (issues call c k + brings call c k)) (λ c. s .held c k) (λ c. issues call c k + brings call c k) n (λ c. refl) in
+        let y = sum-add (λ c. s .held c k + (issues call c k + brings call c k)) (λ c. changed s call .held c k) (λ c. redeems call c k + takes call c k) n
+        (λ c. omega (arith, h c k)) in
+        omega (arith, l, r, x, y)
+
+pub after-ok : (b : Book) (s : State) (call : Call) (t : Told) → replyTo b s call ≡ ok t → after b s call ≡ changed s call
+unfolding after
+after-ok b s call t h = rw h
+
+module _ (b : Book) (few : length (b .cards) ≤ cardLimit) where
+  -- an amount at a declared card is counted once
+  amount-sum : (c j n k : ℕ) → T (declared b c) → sumTo (λ d. amount c j n d k) cardLimit ≡ amount c j n c k
+  amount-sum c j n k h =
+      let w = within→ c (length (b .cards)) h in
+      sum-same (λ d. amount c j n d k) (λ d. oneIf (eqb c d) * (oneIf (eqb j k) * n)) cardLimit (λ d. and-scale (eqb c d) (eqb j k) n)
+      ∙ sum-point c (oneIf (eqb j k) * n) cardLimit (w .0) (omega arith)
+      ∙ sym (ap (λ (x : Bool). oneIf (x && eqb j k) * n) (eqb-same c))
+
+  pub settling-keeps : (s : State) (e p : List ℕ) (k : ℕ) (t : Told) → replyTo b s (settle e p) ≡ ok t → total (changed s (settle e p)) k ≡ total s k
+  settling-keeps s e p k t h = omega (
+    arith,
+    balance s (settle e p) (takes-le b s (settle e p) t h) k,
+    sum-zero cardLimit,
+    given-is-received b cardLimit k (exchangeOf e) few (settled-ok b s e p t h .among),
+  )
+
+  pub issuing-adds : (s : State) (c j n k : ℕ) (t : Told) → replyTo b s (issue c j n) ≡ ok t → total (changed s (issue c j n)) k ≡ total s k + amount c j n c k
+  unfolding replyTo
+  issuing-adds s c j n k t h =
+      let q = inOrder-ok (accountQuestions b c j ++ ((10 ⇒ leb (total s j + n) sumLimit) ∷ [])) 0 (ok done) t h in
+      omega (arith, balance s (issue c j n) (takes-le b s (issue c j n) t h) k, sum-zero cardLimit, amount-sum c j n k (q .0 .0))
+
+  pub redeeming-takes : (s : State) (c j n k : ℕ) (t : Told) → replyTo b s (redeem c j n) ≡ ok t → total (changed s (redeem c j n)) k + amount c j n c k ≡ total s k
+  unfolding replyTo
+  redeeming-takes s c j n k t h =
+      let q = inOrder-ok (accountQuestions b c j ++ ((11 ⇒ leb n (s .held c j)) ∷ [])) 0 (ok done) t h in
+      omega (arith, balance s (redeem c j n) (takes-le b s (redeem c j n) t h) k, sum-zero cardLimit, amount-sum c j n k (q .0 .0))
+
+  -- ---- no kind's sum ever passes the limit
+
+  issue-limit : (s : State) (c j n k : ℕ) (t : Told) → replyTo b s (issue c j n) ≡ ok t → total s k ≤ sumLimit → total s k + amount c j n c k ≤ sumLimit
+  unfolding replyTo
+  issue-limit s c j n k t h l =
+      let q = inOrder-ok (accountQuestions b c j ++ ((10 ⇒ leb (total s j + n) sumLimit) ∷ [])) 0 (ok done) t h in
+      go (eqb c c) (eqb j k) refl (leb→le (total s j + n) sumLimit (q .0 .1 .1 .0))
+    where
+      go : (x y : Bool) → eqb j k ≡ y → total s j + n ≤ sumLimit → total s k + oneIf (x && y) * n ≤ sumLimit
+      go true true f m = omega (arith, ap (total s) (eqb→eq j k (eq-T f)))
+      go true false f m = omega arith
+      go false y f m = omega arith
+
+  pub limit-kept : (s : State) → ((k : ℕ) → total s k ≤ sumLimit) → (call : Call) (t : Told) → replyTo b s call ≡ ok t → (k : ℕ) → total (changed s call) k ≤ sumLimit
+  limit-kept s l (issue c j n) t h k = omega (arith, issuing-adds s c j n k t h, issue-limit s c j n k t h (l k))
+  limit-kept s l (redeem c j n) t h k = omega (arith, redeeming-takes s c j n k t h, l k)
+  limit-kept s l (query c j) t h k = omega (arith, balance s (query c j) (takes-le b s (query c j) t h) k, sum-zero cardLimit, l k)
+  limit-kept s l (settle e p) t h k = omega (arith, settling-keeps s e p k t h, l k)

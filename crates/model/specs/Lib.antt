@@ -1,0 +1,17 @@
+pub mod Limits
+pub mod Lists
+pub mod Questions
+pub mod CardNumbers
+pub mod Grammar
+pub mod Reader
+pub mod Book
+pub mod Opening
+pub mod Transfers
+pub mod Fairness
+pub mod Holdings
+pub mod Proof
+pub mod Calls
+pub mod History
+pub mod Decision
+pub mod Theorems
+pub mod Swaps

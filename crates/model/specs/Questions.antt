@@ -1,0 +1,37 @@
+-- A call's questions: the first that is answered no refuses the call with its number and a place.
+use mathlib.Core.Bool.{Bool, cond}
+use mathlib.Core.List.{List, [], _∷_}
+use Prim.Native.Nat.{ℕ}
+
+infix 20 _⇒_
+-- What a call answers, or the refusal: its number and its place.
+pub data Answer (A : Type 0) : Type 0 where
+  ok : A → Answer A
+  refused : ℕ → ℕ → Answer A
+
+-- what a call on an opened engine tells where it is not refused: no more than that, or a holding
+pub data Told : Type 0 where
+  done : Told
+  holding : ℕ → Told
+
+abbrev pub Reply : Type 0
+Reply = Answer Told
+
+-- a question's number, and whether it is met
+pub record Question : Type 0 where
+  pub number : ℕ
+  pub met : Bool
+
+abbrev pub _⇒_ : ℕ → Bool → Question
+n ⇒ x = record { number = n; met = x }
+
+module _ {A : Type 0} where
+  -- the questions in order, all with place i; `rest` is the answer where each is met
+  abbrev pub inOrder : List Question → ℕ → Answer A → Answer A
+  inOrder [] i rest = rest
+  inOrder (q ∷ qs) i rest = cond (q .met) (inOrder qs i rest) (refused (q .number) i)
+
+  -- a refusal stands; what is not refused goes on
+  abbrev pub andThen : {B : Type 0} → Answer A → (A → Answer B) → Answer B
+  andThen (ok a) f = f a
+  andThen (refused n i) f = refused n i
