@@ -32,12 +32,12 @@ pub record Settled (b : Book) (s : State) (e : List ℕ) : Type 0 where
   pub covered : Covered s (exchangeOf e)
 
 -- what questions 12 to 14 say of bytes that pass up to 21
-record Judged (b : Book) (e p : List ℕ) (t : Told) : Type 0 where
-  sized : T (isSized transferSize exchangeLimit e)
-  among : Among b (exchangeOf e)
-  judged : judge b (exchangeOf e) p ≡ ok t
+pub record Judged (b : Book) (e p : List ℕ) (t : Told) : Type 0 where
+  pub sized : T (isSized transferSize exchangeLimit e)
+  pub among : Among b (exchangeOf e)
+  pub judged : judge b (exchangeOf e) p ≡ ok t
 
-judged-ok : (b : Book) (e p : List ℕ) (t : Told) → judging b e p ≡ ok t → Judged b e p t
+pub judged-ok : (b : Book) (e p : List ℕ) (t : Told) → judging b e p ≡ ok t → Judged b e p t
 unfolding judging
 judged-ok b e p t h =
     let q12 = inOrder-ok ((12 ⇒ isSized transferSize exchangeLimit e) ∷ []) 0 _ t h in

@@ -1,0 +1,8 @@
+pub mod Counts
+pub mod Digits
+pub mod Known
+pub mod Rows
+pub mod Grown
+pub mod Forms
+pub mod Lines
+pub mod Texts

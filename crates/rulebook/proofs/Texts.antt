@@ -1,0 +1,126 @@
+-- A text from a place on, line by line.
+use mathlib.Core.Path.{_≡_, refl, sym, _∙_}
+use mathlib.Core.Bool.{Bool, true, false}
+use mathlib.Core.List.{List, [], _∷_}
+use Prim.Native.Char.{code}
+use Prim.Native.Nat.{ℕ, suc, _+_, _-_, _≤_, _<_}
+use native.Mathlib.Omega.{arith}
+use native.Mathlib.Numerals.{add-one}
+use lib.Dec.{eqb}
+use lib.ListN.{length, getD, take, drop, length-drop}
+use lib.Seq.{drop-cons, drop-length, drop-drop}
+use borrow.Author.Tests.{le-leb, lt-leb, eq-eqb, ne-eqb}
+use Rattle.model.specs.Questions.{Answer, ok, refused, andThen}
+use Rattle.model.specs.Reader.{Cut, cut}
+use Rattle.model.specs.Book.{Book}
+use Rattle.model.specs.Opening as model
+use Rattle.model.specs.Opening.{openLine, openLines, opening}
+use Rattle.answers.specs.declared.Answer.the-variants.{Done, Refused}
+use Rattle.rulebook.specs.View.{bookOf}
+use Rattle.rulebook.specs.Reads.{noTables, Reads}
+use Rattle.rulebook.specs.Lines.{untilLF, Sized, Taken}
+use Rattle.rulebook.specs.declared.Tables.{Tables}
+use Rattle.rulebook.proofs.Grown.{no-tables}
+
+-- ---- the place of the first LF, by a loop that is at place i of s
+
+module _ (s : List ℕ) (i : ℕ) (l : i < length s) where
+  pub further : (getD s i 0 ≡ code "\n" → ⊥) → untilLF (drop i s) ≡ untilLF (drop (i + 1) s) + 1
+  unfolding untilLF
+  further p = rw (add-one i, drop-cons s i 0 l, ne-eqb (getD s i 0) (code "\n") p) (sym (add-one _))
+
+  pub here : getD s i 0 ≡ code "\n" → untilLF (drop i s) ≡ 0
+  unfolding untilLF
+  here p = rw (drop-cons s i 0 l, eq-eqb (getD s i 0) (code "\n") p)
+
+pub at-the-end : (s : List ℕ) (i : ℕ) → i ≡ length s → untilLF (drop i s) ≡ 0
+unfolding untilLF
+at-the-end s i e = rw (e, drop-length s)
+
+-- ---- the text cut at its first LF
+
+abbrev firstCut : List ℕ → Cut
+firstCut xs = record { lines = take (untilLF xs) xs ∷ cut (drop (suc (untilLF xs)) xs) .lines; last = cut (drop (suc (untilLF xs)) xs) .last }
+
+cut-line : (xs : List ℕ) → untilLF xs < length xs → cut xs ≡ firstCut xs
+unfolding untilLF cut
+cut-line [] l = absurd (omega arith)
+cut-line (x ∷ xs) l = go (eqb x (code "\n")) refl (cut-line xs)
+  where
+    go : (b : Bool) → eqb x (code "\n") ≡ b → (untilLF xs < length xs → cut xs ≡ firstCut xs) → cut (x ∷ xs) ≡ firstCut (x ∷ xs)
+    go true e h = rw e
+    go false e h = let m : untilLF xs < length xs = (let k = rw e at l in omega arith) in rw (e, h m)
+
+cut-rest : (xs : List ℕ) → untilLF xs ≡ length xs → cut xs ≡ record { lines = []; last = xs }
+unfolding untilLF cut
+cut-rest [] l = refl
+cut-rest (x ∷ xs) l = go (eqb x (code "\n")) refl (cut-rest xs)
+  where
+    go : (b : Bool) → eqb x (code "\n") ≡ b → (untilLF xs ≡ length xs → cut xs ≡ record { lines = []; last = xs }) → cut (x ∷ xs) ≡ record { lines = []; last = x ∷ xs }
+    go true e h = absurd (let k = rw e at l in omega arith)
+    go false e h = let m : untilLF xs ≡ length xs = (let k = rw e at l in omega arith) in rw (e, h m)
+
+-- ---- the lines from the place at on, the first of them line i, over the book b
+
+unfoldable pub openFrom : List ℕ → ℕ → ℕ → Book → Answer Book
+openFrom text at i b = openLines i b (cut (drop at text) .lines) (cut (drop at text) .last)
+
+pub too-long : (text : List ℕ) → 16_384 < length text → opening text ≡ refused 1 0
+unfolding opening
+too-long text l = rw (lt-leb (length text) 16_384 l)
+
+pub starts : (text : List ℕ) → length text ≤ 16_384 → openFrom text 0 1 (bookOf noTables) ≡ opening text
+unfolding openFrom opening
+starts text l = rw (no-tables, le-leb (length text) 16_384 l)
+
+pub all-read : (text : List ℕ) (at i : ℕ) (b : Book) → openFrom text at i b ≡ opening text → at ≡ length text → opening text ≡ ok b
+unfolding openFrom openLines cut
+all-read text at i b h e = sym h ∙ rw (e, drop-length text)
+
+-- a turn at the place at, over the tables t, where the line ends at the place end
+pub record Turn (text : List ℕ) (at i end : ℕ) (t : Tables) : Type 0 where
+  pub so-far : openFrom text at i (bookOf t) ≡ opening text
+  pub within : at < length text
+  pub ends : end ≡ at + untilLF (drop at text)
+
+module _ {text : List ℕ} {at i end : ℕ} {t : Tables} (turn : Turn text at i end t) where
+  pub no-LF : end ≡ length text → opening text ≡ refused 2 i
+  unfolding openFrom openLines
+  no-LF p =
+      let n = length-drop at text in
+      let e = turn .ends in
+      let l = turn .within in
+      sym (turn .so-far) ∙ rw (cut-rest (drop at text) (omega arith), ne-eqb (length (drop at text)) 0 (λ z. omega arith))
+
+  module _ (p : end < length text) where
+    abbrev line : List ℕ
+    line = take (end - at) (drop at text)
+
+    line-first : opening text ≡ andThen (openLine i (bookOf t) line) (λ b. openFrom text (end + 1) (i + 1) b)
+    unfolding openFrom openLines
+    line-first =
+        let n = length-drop at text in
+        let e = turn .ends in
+        let k : untilLF (drop at text) ≡ end - at = omega arith in
+        let s : at + suc (end - at) ≡ end + 1 = omega arith in
+        sym (turn .so-far) ∙ rw (cut-line (drop at text) (omega arith), k, drop-drop (suc (end - at)) at text, s)
+
+    module _ {t′ : Tables} {r : ℕ} (taken : Taken line t t′ r) where
+      pub line-refused : (r ≡ 0 → ⊥) → opening text ≡ refused r i
+      line-refused z = line-first ∙ rw (sym (taken .answer i), ne-eqb r 0 z)
+
+      pub line-read : r ≡ 0 → openFrom text (end + 1) (i + 1) (bookOf t′) ≡ opening text
+      line-read z = sym (line-first ∙ rw (sym (taken .answer i), z))
+
+-- ---- what `read` returns
+
+pub reads-refused : {text : List ℕ} {n i : ℕ} → opening text ≡ refused n i → Reads (record { answer = Refused n i; tables = noTables }) text
+unfolding model.bookOf
+reads-refused o = record { answer = sym o; book = rw o no-tables; cleared = λ n i e. refl }
+
+pub reads-done : {text : List ℕ} {t : Tables} → opening text ≡ ok (bookOf t) → Reads (record { answer = Done; tables = t }) text
+unfolding model.bookOf
+reads-done o = record { answer = sym o; book = rw o; cleared = λ n i e. absurd (let z : _≡_ {A = ℕ} 0 1 = cc in omega arith) }
+
+pub empty-sized : Sized noTables
+empty-sized = record { cards = omega arith; digits = refl; lengths = refl; groups = refl; rules = omega arith; rows = refl }

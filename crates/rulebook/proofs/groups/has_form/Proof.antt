@@ -1,0 +1,21 @@
+-- The expression is the definition, over what the calls give.
+use Rattle.model.specs.Reader.{isGroupLine}
+use borrow.Author.Needs.{needs}
+use Rattle.rulebook.proofs.groups.has_form.Statement.{statement}
+use Rattle.rulebook.proofs.groups.has_form.Tie as tie
+
+returns : tie.Need-returns
+unfolding isGroupLine
+returns c = cc
+
+pub has-form-spec : {M : Type 1} → statement M
+has-form-spec =
+    tie.close
+    (tie.spec
+    (λ c κs. search needs)
+    (λ c κs. search needs)
+    (λ c κs. search needs)
+    (λ c κs. search needs)
+    (λ c. search needs)
+    (λ c κs. search needs)
+    returns)

@@ -1,0 +1,4 @@
+pub mod View
+pub mod Reads
+pub mod Rows
+pub mod Lines

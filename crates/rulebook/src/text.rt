@@ -1,0 +1,86 @@
+// A text's lines: where one ends, and what it is.
+use crate::cards;
+use crate::groups;
+use crate::letters;
+use crate::rules;
+use answers::Answer;
+ghost use mathlib.Core.Path.{_≡_};
+ghost use Prim.Native.Nat.{_≤_, _+_};
+ghost use lib.ListN.{length, drop};
+ghost use Rattle.model.specs.Limits.{textLimit};
+ghost use Rattle.model.specs.Opening.{opening};
+ghost use Rattle.answers.specs.View.{answerOf};
+ghost use Rattle.rulebook.specs.View.{bookOf};
+ghost use Rattle.rulebook.specs.Reads.{noTables};
+ghost use Rattle.rulebook.specs.Lines.{untilLF, tables, Sized, Taken};
+
+// The place of the first LF from a place on, or the text's length.
+pub(crate) fn line_end(text: &[u8], at: usize) -> usize
+    requires { ⌜ at ≤ length (now text) ⌝ }
+    ensures { λ r. ⌜ (r ≡ at + untilLF (drop at (now (text .entry)))) × (r ≤ length (now (text .entry))) ⌝ }
+{
+    let mut i = at;
+    while i < text.len() {
+        if text[i] == b'\n' {
+            return i;
+        }
+        i += 1;
+    }
+    i
+}
+
+// One line, without its LF: the first letter decides its form.
+pub(crate) fn take_line(
+    line: &[u8],
+    cards: &mut u8,
+    digits: &mut [u8; 608],
+    lengths: &mut [u8; 32],
+    groups: &mut [u8; 256],
+    rules: &mut u8,
+    rows: &mut [u8; 1792],
+) -> u8
+    requires { ⌜ Sized (tables (now cards) (now digits) (now lengths) (now groups) (now rules) (now rows)) ⌝ }
+    ensures { λ r. ⌜ Taken (now (line .entry))
+        (tables (now (cards .entry)) (now (digits .entry)) (now (lengths .entry)) (now (groups .entry)) (now (rules .entry)) (now (rows .entry)))
+        (tables (now (cards .exit)) (now (digits .exit)) (now (lengths .exit)) (now (groups .exit)) (now (rules .exit)) (now (rows .exit))) r ⌝ }
+{
+    let x = letters::byte(line, 0);
+    match x {
+        b'C' => cards::take(line, cards, digits, lengths),
+        b'G' => groups::take(line, *cards, groups),
+        b'R' => rules::take(line, *cards, rules, rows),
+        _ => answers::NO_FORM,
+    }
+}
+
+// Each line of a text, into empty tables, up to the first that is refused.
+pub(crate) fn take_lines(
+    text: &[u8],
+    cards: &mut u8,
+    digits: &mut [u8; 608],
+    lengths: &mut [u8; 32],
+    groups: &mut [u8; 256],
+    rules: &mut u8,
+    rows: &mut [u8; 1792],
+) -> Answer
+    requires { ⌜ (length (now text) ≤ textLimit) × (tables (now cards) (now digits) (now lengths) (now groups) (now rules) (now rows) ≡ noTables) ⌝ }
+    ensures { λ r. ⌜ answerOf (bookOf (tables (now (cards .exit)) (now (digits .exit)) (now (lengths .exit)) (now (groups .exit)) (now (rules .exit)) (now (rows .exit)))) r
+        ≡ opening (now (text .entry)) ⌝ }
+{
+    let mut at = 0;
+    let mut line: u32 = 1;
+    while at < text.len() {
+        let end = line_end(text, at);
+        if end == text.len() {
+            return Answer::Refused(answers::NO_FORM, line);
+        }
+        let w = &text[at..end];
+        let refusal = take_line(w, cards, digits, lengths, groups, rules, rows);
+        if refusal != 0 {
+            return Answer::Refused(refusal, line);
+        }
+        at = end + 1;
+        line += 1;
+    }
+    Answer::Done
+}
