@@ -1,5 +1,9 @@
 // Runs the cases of document 01 that are not marked P, and prints what each answers; the file stdout beside src/ is what it must print.
+mod accounts;
+mod large;
 mod opening;
+mod ring;
+mod tell;
 mod texts;
 
 fn main() {
@@ -9,4 +13,18 @@ fn main() {
     opening::bytes();
     opening::cards();
     opening::limits();
+    accounts::questions();
+    accounts::sums();
+    ring::settles();
+    ring::sizes();
+    ring::transfers();
+    ring::records();
+    ring::cards();
+    ring::links();
+    ring::swaps();
+    ring::other_order();
+    large::settles();
+    large::not_covered();
+    large::refused();
+    large::one_record_less();
 }

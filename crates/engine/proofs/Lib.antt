@@ -1,0 +1,3 @@
+pub mod AccountLaws
+pub mod CallLaws
+pub mod Demand3

@@ -1,0 +1,4 @@
+pub mod View
+pub mod Contracts
+pub mod Accounts
+pub mod Demand3

@@ -1,0 +1,229 @@
+-- The chain: what holds when a record is taken up, that a record which meets its questions leads to the next one with one transfer
+-- fewer, and what is answered where a record is refused and where the chain has ended.
+use mathlib.Core.Path.{_≡_, refl, sym, _∙_, ap, ap₂}
+use mathlib.Core.Bool.{Bool, true, false, not, cond, _&&_, _||_}
+use mathlib.Core.List.{List, [], _∷_, _++_}
+use Prim.Native.Nat.{ℕ, zero, suc, _+_, _-_, _*_, _/_, _≤_, _<_}
+use native.Mathlib.Omega.{arith}
+use lib.Dec.{eqb}
+use lib.ListN.{length, getD, set, take, replicate, length-set, length-replicate, length-append}
+use lib.Seq.{take-set-lt}
+use borrow.Author.Tests.{eq-eqb, ne-eqb}
+use Rattle.model.specs.Lists.{within}
+use Rattle.model.specs.Questions.{Answer, ok, refused, done, Reply, _⇒_, inOrder, andThen}
+use Rattle.model.specs.Grammar.{Rule}
+use Rattle.model.specs.Transfers.{Exchange, contained, transferAt, exchangeOf}
+use Rattle.model.specs.Fairness.{pricesOf}
+use Rattle.model.specs.Proof.{recordAt, next, claim, ruleNumber, cards, asked, marked, recordQuestions, chain, judge}
+use Rattle.model.proofs.Tests.{both-true}
+use Rattle.model.proofs.Places.{upTo-length}
+use Rattle.model.proofs.Soundness.{unclaimed, unclaimed-set, unclaimed-first}
+use Rattle.rulebook.specs.View.{rowAt}
+use Rattle.judge.specs.Parts.{Parts, Limited, bookWith, transfers}
+use Rattle.judge.specs.Rows.{priceCount, priceAt, pricesAt}
+use Rattle.judge.specs.Records.{firstUnmet, isClaimable, isLinked, ruleTests, recordTests}
+use Rattle.judge.specs.Counts.{Room, Asks, isPaid}
+use Rattle.judge.proofs.Tests.{within-true}
+use Rattle.judge.proofs.Paying.{noCounts, asks-none, asks-more, asks-swap, counts-room, paid≡}
+use Rattle.judge.proofs.Asking.{unmet-append, first-refuses}
+use Rattle.judge.proofs.Issuers.{prices≡, rule-at}
+use Rattle.judge.proofs.Agreeing.{free, agrees}
+
+-- ---- what a record says that meets its questions
+
+pub record Passed (t : Parts) (e r : List ℕ) (marks : List Bool) (left records : ℕ) : Type 0 where
+  pub claimable : isClaimable marks (transfers e) (claim r) ≡ true
+  pub claim-bounds : (1 ≤ claim r) × (claim r ≤ transfers e)
+  pub rule-bounds : (1 ≤ ruleNumber r) × (ruleNumber r ≤ t .rules)
+  pub linked : isLinked left (next r) records ≡ true
+
+cond-zero : (x : Bool) (q k : ℕ) → cond x q (suc k) ≡ 0 → (x ≡ true) × (q ≡ 0)
+cond-zero true q k h = (refl, h)
+cond-zero false q k h = absurd (omega arith)
+
+append-zero : (q k : ℕ) → cond (eqb q 0) k q ≡ 0 → k ≡ 0
+append-zero zero k h = h
+append-zero (suc q) k h = let z : suc q ≡ 0 = rw (ne-eqb (suc q) 0 (λ e. omega arith)) at h in absurd (omega arith)
+
+pub passed : (t : Parts) (e r : List ℕ) (marks : List Bool) (left records : ℕ) → firstUnmet (recordTests t e r marks left records) ≡ 0 → Passed t e r marks left records
+unfolding recordTests ruleTests
+passed t e r marks left records h =
+    let a = cond-zero (isClaimable marks (transfers e) (claim r)) _ 14 h in
+    let b = cond-zero (within (ruleNumber r) (t .rules)) _ 15 (a .1) in
+    let rule = ruleTests (t .cards) (t .digits) (t .groups) (rowAt (t .rows) (ruleNumber r - 1)) r (transferAt e (claim r - 1)) in
+    let link = (20 ⇒ isLinked left (next r) records) ∷ [] in
+    record {
+      claimable = a .0;
+      claim-bounds = within-true (claim r) (transfers e) (both-true (within (claim r) (transfers e)) _ (a .0) .0);
+      rule-bounds = within-true (ruleNumber r) (t .rules) (b .0);
+      linked = cond-zero (isLinked left (next r) records) 0 19 (append-zero (firstUnmet rule) (firstUnmet link) (sym (unmet-append rule link tt) ∙ b .1)) .0;
+    }
+
+-- ---- the chain
+
+module _ (t : Parts) (e p : List ℕ) where
+  abbrev n : ℕ
+  n = transfers e
+
+  abbrev records : ℕ
+  records = length p / 12
+
+  -- question 21, asked of the prices of the whole chain
+  abbrev paying : Exchange → Reply
+  paying P = inOrder ((21 ⇒ contained P (exchangeOf e)) ∷ []) 0 (ok done)
+
+  -- the model's answer from record i on
+  abbrev answerFrom : List ℕ → ℕ → List Bool → Exchange → ℕ → Reply
+  answerFrom lengths left marks P i = andThen (chain (bookWith t lengths) (exchangeOf e) p left i (take n marks) P) paying
+
+  -- record i is taken up, `left` transfers being unclaimed
+  pub record Going (left : ℕ) (marks : List Bool) (counts : List ℕ) (missing : Bool) (i : ℕ) : Type 0 where
+    pub prices : Exchange
+    pub few : length prices + left * 4 ≤ n * 4
+    pub asks : Asks e prices noCounts counts (not missing)
+    pub size : length marks ≡ 32
+    pub unclaimed≡ : unclaimed (take n marks) ≡ left
+    pub here : 0 < left → (1 ≤ i) × (i * 12 ≤ length p)
+    pub same : (lengths : List ℕ) → answerFrom lengths left marks prices i ≡ judge (bookWith t lengths) (exchangeOf e) p
+
+  first-marks : (k m : ℕ) → k ≤ m → take k (replicate m false) ≡ replicate k false
+  first-marks zero m h = refl
+  first-marks (suc k) zero h = absurd (omega arith)
+  first-marks (suc k) (suc m) h = ap (λ (z : List Bool). false ∷ z) (first-marks k m (omega arith))
+
+  module _ (limited : Limited t) (short : length e ≤ 96) where
+    X-length : length (exchangeOf e) ≡ n
+    unfolding exchangeOf
+    X-length = upTo-length (transferAt e) n
+
+    pub going-first : 12 ≤ length p → Going n (replicate 32 false) noCounts false 1
+    unfolding judge
+    going-first h =
+        let none = first-marks n 32 (omega arith) in record {
+          prices = [];
+          few = omega arith;
+          asks = asks-none e noCounts;
+          size = length-replicate 32 false;
+          unclaimed≡ = ap unclaimed none ∙ unclaimed-first n;
+          here = λ l. omega arith;
+          same = λ lengths. rw (none, X-length);
+        }
+
+    -- the model's chain by the first unmet question over the bytes
+    chain-step : (lengths : List ℕ) (left i : ℕ) (marks : List Bool) (P : Exchange) → length marks ≡ 32 → 0 < left → unclaimed (take n marks) ≡ left
+        → chain (bookWith t lengths) (exchangeOf e) p left i (take n marks) P
+        ≡ cond (eqb (firstUnmet (recordTests t e (recordAt p i) marks (left - 1) records)) 0)
+        (chain (bookWith t lengths) (exchangeOf e) p (left - 1) (next (recordAt p i)) (marked (take n marks) (recordAt p i)) (asked (bookWith t lengths) (recordAt p i) ++ P))
+        (refused (firstUnmet (recordTests t e (recordAt p i) marks (left - 1) records)) i)
+    unfolding chain
+    chain-step lengths zero i marks P s h u = absurd (omega arith)
+    chain-step lengths (suc left) i marks P s h u =
+        let b = bookWith t lengths in
+        let r = recordAt p i in
+        let rest = chain b (exchangeOf e) p left (next r) (marked (take n marks) r) (asked b r ++ P) in
+        let d : suc left - 1 ≡ left = omega arith in
+        rw d
+        (first-refuses (recordQuestions b (exchangeOf e) records r (take n marks)) i rest tt
+        ∙ ap (λ (q : ℕ). cond (eqb q 0) rest (refused q i)) (agrees t limited lengths e short r marks s left records u))
+
+    module _ (left : ℕ) (marks : List Bool) (counts : List ℕ) (missing : Bool) (i : ℕ) (g : Going left marks counts missing i) where
+      abbrev r : List ℕ
+      r = recordAt p i
+
+      -- the number that the record's questions give
+      abbrev q : ℕ
+      q = firstUnmet (recordTests t e r marks (left - 1) records)
+
+      -- each count has room for the prices of one more record
+      pub room : 0 < left → Room e 4 counts
+      room l = counts-room e (g .prices) counts (not missing) 4 short (g .asks) (omega (arith, g .few))
+
+      turn : (lengths : List ℕ) → 0 < left → chain (bookWith t lengths) (exchangeOf e) p left i (take n marks) (g .prices)
+          ≡ cond (eqb q 0) (chain (bookWith t lengths) (exchangeOf e) p (left - 1) (next r) (marked (take n marks) r) (asked (bookWith t lengths) r ++ g .prices)) (refused q i)
+      turn lengths l = chain-step lengths left i marks (g .prices) (g .size) l (g .unclaimed≡)
+
+      -- a record that does not meet a question is refused
+      pub going-stops : 0 < left → (q ≡ 0 → ⊥) → (lengths : List ℕ) → refused q i ≡ judge (bookWith t lengths) (exchangeOf e) p
+      going-stops l h lengths =
+          let stopped : chain (bookWith t lengths) (exchangeOf e) p left i (take n marks) (g .prices) ≡ refused q i = rw (ne-eqb q 0 h) at (turn lengths l) in
+          rw stopped at (g .same lengths)
+
+      -- the chain has ended
+      pub going-ends : left ≤ 0 → (paid : Bool) → paid ≡ isPaid e counts missing → (lengths : List ℕ)
+          → cond paid (ok done) (refused 21 0) ≡ judge (bookWith t lengths) (exchangeOf e) p
+      unfolding chain
+      going-ends l paid h lengths =
+          let z : left ≡ 0 = omega arith in
+          rw (h ∙ paid≡ e (g .prices) counts missing short (g .asks)) (rw z at (g .same lengths))
+
+      module _ (some : 0 < left) (met : q ≡ 0) where
+        abbrev row : List ℕ
+        row = rowAt (t .rows) (ruleNumber r - 1)
+
+        abbrev ok-record : Passed t e r marks (left - 1) records
+        ok-record = passed t e r marks (left - 1) records met
+
+        -- the next record is taken up
+        pub going-on : (after : List ℕ) (found : Bool) → Asks e (pricesAt row r) counts after found
+            → Going (left - 1) (set marks (claim r - 1) true) after (missing || not found) (next r)
+        going-on after found h = record {
+          prices = pricesAt row r ++ g .prices;
+          few = omega (arith, g .few, length-append (pricesAt row r) (g .prices), upTo-length (priceAt row r) (priceCount row));
+          asks = asks-swap e (g .prices) (pricesAt row r) noCounts after _ (rw (both-found missing found) (asks-more e (g .prices) (pricesAt row r) noCounts counts after (not missing) found (g .asks) h));
+          size = length-set marks (claim r - 1) true ∙ g .size;
+          unclaimed≡ = ap unclaimed marks≡ ∙ omega (arith, g .unclaimed≡, unclaimed-set (take n marks) (claim r - 1) unmarked);
+          here = λ l. next-here l;
+          same = λ lengths. same-answer lengths;
+        }
+          where
+            both-found : (x y : Bool) → not (x || not y) ≡ (not x && y)
+            both-found true y = refl
+            both-found false true = refl
+            both-found false false = refl
+
+            claim-low : claim r - 1 < n
+            claim-low = omega (arith, ok-record .claim-bounds)
+
+            marks≡ : take n (set marks (claim r - 1) true) ≡ set (take n marks) (claim r - 1) true
+            marks≡ = take-set-lt n marks (claim r - 1) true claim-low
+
+            unmarked : getD (take n marks) (claim r - 1) true ≡ false
+            unmarked = free t limited [] e short r marks (g .size) (ok-record .claimable)
+
+            next-here : 0 < left - 1 → (1 ≤ next r) × (next r * 12 ≤ length p)
+            next-here l = let w = within-true (next r) records (rw (ne-eqb (left - 1) 0 (λ z. omega arith)) at (ok-record .linked)) in omega arith
+
+            asked≡ : (lengths : List ℕ) → asked (bookWith t lengths) r ≡ pricesAt row r
+            asked≡ lengths =
+                ap (λ (R : Rule). pricesOf R (cards r)) (rule-at t limited lengths (ruleNumber r) (ok-record .rule-bounds .0) (ok-record .rule-bounds .1)) ∙ prices≡ row r
+
+            same-answer : (lengths : List ℕ) → answerFrom lengths (left - 1) (set marks (claim r - 1) true) (pricesAt row r ++ g .prices) (next r) ≡ judge (bookWith t lengths) (exchangeOf e) p
+            same-answer lengths =
+                ap (λ (z : Answer Exchange). andThen z paying)
+                (ap₂ (λ (m : List Bool) (P : Exchange). chain (bookWith t lengths) (exchangeOf e) p (left - 1) (next r) m (P ++ g .prices)) marks≡ (sym (asked≡ lengths))
+                ∙ sym (turn lengths some ∙ rw (eq-eqb q 0 met)))
+                ∙ g .same lengths
+
+-- ---- a turn of the loop
+
+-- what is known of record r, record i of the chain, once it has met its questions
+pub record Turn (t : Parts) (e p : List ℕ) (left : ℕ) (marks : List Bool) (counts : List ℕ) (missing : Bool) (r : List ℕ) : Type 0 where
+  pub size : length r ≡ 12
+  pub claim-bounds : (1 ≤ claim r) × (claim r ≤ 32)
+  pub rule-bounds : (1 ≤ ruleNumber r) × (ruleNumber r ≤ 56)
+  pub room : Room e 4 counts
+  pub on : (after : List ℕ) (found : Bool) → Asks e (pricesAt (rowAt (t .rows) (ruleNumber r - 1)) r) counts after found
+      → Going t e p (left - 1) (set marks (claim r - 1) true) after (missing || not found) (next r)
+
+pub turn-facts : (t : Parts) (e p : List ℕ) → Limited t → length e ≤ 96 → (left : ℕ) (marks : List Bool) (counts : List ℕ) (missing : Bool) (i : ℕ) (r : List ℕ)
+    → Going t e p left marks counts missing i → 0 < left → r ≡ recordAt p i → length r ≡ 12 → firstUnmet (recordTests t e r marks (left - 1) (length p / 12)) ≡ 0
+    → Turn t e p left marks counts missing r
+turn-facts t e p limited short left marks counts missing i r g some r≡ size met =
+    let w = passed t e r marks (left - 1) (length p / 12) met in
+    record {
+      size = size;
+      claim-bounds = omega (arith, w .claim-bounds);
+      rule-bounds = omega (arith, w .rule-bounds, limited .rules≤);
+      room = room t e p limited short left marks counts missing i g some;
+      on = rw r≡ (going-on t e p limited short left marks counts missing i g some (rw r≡ at met));
+    }

@@ -1,0 +1,61 @@
+-- Every condition before place i holds.
+use borrow.Author.Needs.{needs}
+use borrow.Author.Tests.{not-true, not-false}
+use Prim.Native.Nat.{_-_, _≤_}
+use mathlib.Core.Path.{_≡_, sym, _∙_}
+use mathlib.Core.Bool.{true}
+use Rattle.model.specs.Lists.{every}
+use Rattle.judge.specs.Rows.{below, conditionCount, conditionHolds}
+use Rattle.judge.proofs.Loops.{every-more, every-stop, every-end}
+use Rattle.judge.proofs.conditions.all_hold.Statement.{statement}
+use Rattle.judge.proofs.conditions.all_hold.Tie as tie
+
+abbrev Inv-loop : tie.InvT-loop
+Inv-loop cards digits groups row rec n i₀ i =
+    (i ≤ n) × (n ≡ conditionCount row) × (every (conditionHolds cards digits groups row rec) (below i) ≡ true)
+
+abbrev μ-loop : tie.MeasureT-loop
+μ-loop cards digits groups row rec n i₀ i = n - i
+
+shared-slice-read-at-most : tie.Need-shared-slice-read-at-most Inv-loop μ-loop
+shared-slice-read-at-most c = search needs
+
+at-most-requires : tie.Need-at-most-requires Inv-loop μ-loop
+at-most-requires c κs = search needs
+
+cast-n : tie.Need-cast-n Inv-loop μ-loop
+cast-n c = search needs
+
+loop-holds : tie.Need-loop-holds Inv-loop μ-loop
+loop-holds c = search needs
+
+condition-holds-requires : tie.Need-condition-holds-requires Inv-loop μ-loop
+condition-holds-requires c κs = search needs
+
+returns : tie.Need-returns Inv-loop μ-loop
+returns c =
+    let o = c .before .before .before .loop in
+    sym (every-stop _ _ (o .i) _ _ (o .inv .2) (sym (c .before .condition-holds .ensures) ∙ not-true _ (c .if1 .taken)) (c .before .before .loop-test .taken) (o .inv .1))
+
+add-i : tie.Need-add-i Inv-loop μ-loop
+add-i c = search needs
+
+loop-less : tie.Need-loop-less Inv-loop μ-loop
+loop-less c = search needs
+
+loop-again : tie.Need-loop-again Inv-loop μ-loop
+loop-again c =
+    let o = c .before .before .before .loop in (
+      search needs,
+      search needs,
+      every-more _ _ (o .i) (o .inv .2) (sym (c .before .condition-holds .ensures) ∙ not-false _ (c .if1 .left)),
+    )
+
+returns-2 : tie.Need-returns-2 Inv-loop μ-loop
+returns-2 c = let o = c .before .loop in sym (every-end _ _ (o .i) _ _ (o .inv .2) (o .inv .0) (c .loop-test .left) (o .inv .1))
+
+pub all-hold-spec : {M : Type 1} → statement M
+all-hold-spec =
+    tie.close
+    (tie.spec Inv-loop μ-loop shared-slice-read-at-most at-most-requires cast-n loop-holds condition-holds-requires returns add-i
+    loop-less loop-again returns-2)

@@ -1,0 +1,64 @@
+-- Every transfer before place j is met.
+use borrow.Author.Needs.{needs}
+use lib.Dec.{leb}
+use borrow.Author.Tests.{not-true, not-false}
+use Prim.Native.Nat.{_-_, _≤_}
+use mathlib.Core.Path.{_≡_, refl, sym, _∙_}
+use mathlib.Core.Bool.{true}
+use lib.ListN.{getD}
+use Rattle.model.specs.Lists.{every}
+use Rattle.model.specs.Transfers.{count, transferAt, exchangeOf}
+use Rattle.judge.specs.Rows.{below}
+use Rattle.judge.specs.Counts.{isPaid}
+use Rattle.judge.proofs.Loops.{every-more, every-stop, every-end}
+use Rattle.judge.proofs.prices.is_paid.Statement.{statement}
+use Rattle.judge.proofs.prices.is_paid.Tie as tie
+
+abbrev Inv-loop : tie.InvT-loop
+Inv-loop exchange counts missing n j₀ j =
+    (j ≤ n) × (every (λ i. leb (getD counts i 0) (count (transferAt exchange i) (exchangeOf exchange))) (below j) ≡ true)
+
+abbrev μ-loop : tie.MeasureT-loop
+μ-loop exchange counts missing n j₀ j = n - j
+
+returns : tie.Need-returns Inv-loop μ-loop
+unfolding isPaid
+returns c = rw (c .if1 .taken)
+
+loop-holds : tie.Need-loop-holds Inv-loop μ-loop
+loop-holds c = search needs
+
+element-copy-out-is-met : tie.Need-element-copy-out-is-met Inv-loop μ-loop
+element-copy-out-is-met c = search needs
+
+is-met-requires : tie.Need-is-met-requires Inv-loop μ-loop
+is-met-requires c κs = search needs
+
+returns-2 : tie.Need-returns-2 Inv-loop μ-loop
+unfolding isPaid
+returns-2 c =
+    let o = c .before .before .before .before .loop in
+    rw (c .before .before .before .before .before .if1 .left) (sym (every-stop _ _ (o .j) _ _ (o .inv .1) (sym (c .before .is-met .ensures) ∙ not-true _ (c .if2 .taken)) (c .before .before .before .loop-test .taken) refl))
+
+add-j : tie.Need-add-j Inv-loop μ-loop
+add-j c = search needs
+
+loop-less : tie.Need-loop-less Inv-loop μ-loop
+loop-less c = search needs
+
+loop-again : tie.Need-loop-again Inv-loop μ-loop
+loop-again c =
+    let o = c .before .before .before .before .loop in
+    (search needs, every-more _ _ (o .j) (o .inv .1) (sym (c .before .is-met .ensures) ∙ not-false _ (c .if2 .left)))
+
+returns-3 : tie.Need-returns-3 Inv-loop μ-loop
+unfolding isPaid
+returns-3 c =
+    let o = c .before .loop in
+    rw (c .before .before .if1 .left) (sym (every-end _ _ (o .j) _ _ (o .inv .1) (o .inv .0) (c .loop-test .left) refl))
+
+pub is-paid-spec : {M : Type 1} → statement M
+is-paid-spec =
+    tie.close
+    (tie.spec Inv-loop μ-loop returns loop-holds element-copy-out-is-met is-met-requires returns-2 add-j loop-less loop-again
+    returns-3)

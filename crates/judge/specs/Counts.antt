@@ -1,0 +1,32 @@
+-- Question 21 over the bytes: for each transfer of the exchange one byte, how often its giver, kind and receiver are asked as a
+-- price, and one flag for a price that no transfer meets.
+use mathlib.Core.Path.{_≡_}
+use mathlib.Core.Bool.{Bool, not, _&&_}
+use mathlib.Core.List.{List}
+use Prim.Native.Nat.{ℕ, _+_, _/_, _≤_, _<_}
+use lib.Dec.{leb}
+use lib.ListN.{length, getD}
+use Rattle.model.specs.Limits.{transferSize, exchangeLimit}
+use Rattle.model.specs.Lists.{every}
+use Rattle.model.specs.Transfers.{Transfer, Exchange, count, transferAt, exchangeOf}
+use Rattle.judge.specs.Parts.{transfers}
+use Rattle.judge.specs.Rows.{below}
+
+-- some transfer of the exchange is t
+abbrev pub occurs : List ℕ → Transfer → Bool
+occurs e t = leb 1 (count t (exchangeOf e))
+
+-- 32 counts, and the one of each transfer has room for k more
+pub record Room (e : List ℕ) (k : ℕ) (counts : List ℕ) : Type 0 where
+  pub size : length counts ≡ exchangeLimit / transferSize
+  pub free : (j : ℕ) → j < transfers e → getD counts j 0 + k ≤ 255
+
+-- the counts before and after the prices Q were asked; all: each of them is a transfer of the exchange
+pub record Asks (e : List ℕ) (Q : Exchange) (before after : List ℕ) (all : Bool) : Type 0 where
+  pub size : length after ≡ length before
+  pub more : (j : ℕ) → j < transfers e → getD after j 0 ≡ getD before j 0 + count (transferAt e j) Q
+  pub found : all ≡ every (occurs e) Q
+
+-- each transfer is asked at most as often as it occurs, and nothing else is asked
+unfoldable pub isPaid : List ℕ → List ℕ → Bool → Bool
+isPaid e counts missing = not missing && every (λ j. leb (getD counts j 0) (count (transferAt e j) (exchangeOf e))) (below (transfers e))

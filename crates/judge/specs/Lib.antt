@@ -1,0 +1,5 @@
+pub mod Judges
+pub mod Parts
+pub mod Rows
+pub mod Records
+pub mod Counts

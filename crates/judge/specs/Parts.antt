@@ -1,0 +1,69 @@
+-- What the inner functions are given: the tables' parts that judging reads, with counts within their limits, and an exchange.
+use mathlib.Core.Path.{_≡_}
+use mathlib.Core.Bool.{Bool, not, _&&_}
+use mathlib.Core.List.{List}
+use Prim.Native.Nat.{ℕ, _/_, _%_, _≤_}
+use lib.Dec.{eqb}
+use lib.ListN.{length}
+use Rattle.model.specs.Limits.{cardLimit, ruleLimit, transferSize, exchangeLimit, recordSize, proofLimit}
+use Rattle.model.specs.Lists.{within}
+use Rattle.model.specs.Questions.{done}
+use Rattle.model.specs.Grammar.{isKind}
+use Rattle.model.specs.Book.{Book}
+use Rattle.model.specs.Transfers.{Transfer, exchangeOf}
+use Rattle.model.specs.Proof.{judge}
+use Rattle.answers.specs.declared.Answer.{Answer}
+use Rattle.answers.specs.View.{answerOf}
+use Rattle.rulebook.specs.View.{rowSize, bookFrom}
+use Rattle.judge.specs.declared.transfers.Transfer as declared
+
+-- the tables without the cards' lengths
+pub record Parts : Type 0 where
+  pub cards : ℕ
+  pub digits : List ℕ
+  pub groups : List ℕ
+  pub rules : ℕ
+  pub rows : List ℕ
+
+abbrev pub parts : ℕ → List ℕ → List ℕ → ℕ → List ℕ → Parts
+parts cards digits groups rules rows = record { cards = cards; digits = digits; groups = groups; rules = rules; rows = rows }
+
+abbrev pub bookWith : Parts → List ℕ → Book
+bookWith t lengths = bookFrom (t .cards) (t .digits) lengths (t .groups) (t .rules) (t .rows)
+
+-- the counts are within their limits
+pub record Limited (t : Parts) : Type 0 where
+  pub cards≤ : t .cards ≤ cardLimit
+  pub rules≤ : t .rules ≤ ruleLimit
+
+-- an exchange within its limit; a rule's row; a proof's record
+abbrev pub Short : List ℕ → Type 0
+Short e = length e ≤ exchangeLimit
+
+abbrev pub IsRow : List ℕ → Type 0
+IsRow row = length row ≡ rowSize
+
+abbrev pub IsRecord : List ℕ → Type 0
+IsRecord r = length r ≡ recordSize
+
+-- how many transfers the bytes hold
+abbrev pub transfers : List ℕ → ℕ
+transfers e = length e / transferSize
+
+-- a transfer of the program as the model's
+abbrev pub transferOf : declared.Transfer → Transfer
+transferOf t = record { giver = t .giver; kind = t .kind; receiver = t .receiver }
+
+-- question 13 of a transfer, n cards being declared
+abbrev pub isProperOf : ℕ → Transfer → Bool
+isProperOf n t = (within (t .giver) n && within (t .receiver) n) && (not (eqb (t .giver) (t .receiver)) && isKind (t .kind))
+
+-- a proof that question 14 passes
+pub record Recorded (p : List ℕ) : Type 0 where
+  pub some : recordSize ≤ length p
+  pub few : length p ≤ proofLimit
+  pub whole : length p % recordSize ≡ 0
+
+-- what following the chain answers: questions 15 to 21
+abbrev pub Follows : Parts → List ℕ → List ℕ → Answer → Type 0
+Follows t e p answer = (lengths : List ℕ) → answerOf done answer ≡ judge (bookWith t lengths) (exchangeOf e) p

@@ -1,0 +1,43 @@
+-- Questions 15 to 20 of a proof record over the bytes. They are put together as the code asks them; that the first unmet one is
+-- the model's stands in proofs/Asking.antt.
+use mathlib.Core.Bool.{Bool, false, not, _&&_, cond}
+use mathlib.Core.List.{List, [], _∷_, _++_}
+use Prim.Native.Nat.{ℕ, _-_}
+use lib.Dec.{eqb}
+use lib.ListN.{getD}
+use Rattle.model.specs.Lists.{within}
+use Rattle.model.specs.Questions.{Question, _⇒_}
+use Rattle.model.specs.Transfers.{Transfer, transferAt}
+use Rattle.model.specs.Proof.{next, claim, ruleNumber}
+use Rattle.rulebook.specs.View.{rowAt}
+use Rattle.judge.specs.Parts.{Parts, transfers}
+use Rattle.judge.specs.Rows.{ownerOf, cardsFit, allPayable, allHold}
+
+-- the number of the first question that is not met; 0 where each is
+abbrev pub firstUnmet : List Question → ℕ
+firstUnmet [] = 0
+firstUnmet (q ∷ qs) = cond (q .met) (firstUnmet qs) (q .number)
+
+-- question 15 of transfer number k among n
+abbrev pub isClaimable : List Bool → ℕ → ℕ → Bool
+isClaimable marks n k = within k n && not (getD marks (k - 1) false)
+
+-- question 20; left: the transfers that are not claimed yet, this record's being claimed
+abbrev pub isLinked : ℕ → ℕ → ℕ → Bool
+isLinked left i records = cond (eqb left 0) (eqb i 0) (within i records)
+
+-- questions 16 to 19 of a record that claims transfer c by the rule of the row
+unfoldable pub ruleTests : ℕ → List ℕ → List ℕ → List ℕ → List ℕ → Transfer → List Question
+ruleTests n digits groups row r c =
+    (16 ⇒ (eqb (ownerOf row) (c .giver) && eqb (getD row 1 0) (c .kind))) ∷
+    (17 ⇒ cardsFit n row r (c .receiver)) ∷
+    (18 ⇒ allPayable row r) ∷
+    (19 ⇒ allHold n digits groups row r) ∷ []
+
+-- questions 15 to 20; e: the exchange's bytes, marks: what is claimed before this record
+unfoldable pub recordTests : Parts → List ℕ → List ℕ → List Bool → ℕ → ℕ → List Question
+recordTests t e r marks left records =
+    (15 ⇒ isClaimable marks (transfers e) (claim r)) ∷
+    (16 ⇒ within (ruleNumber r) (t .rules)) ∷
+    (ruleTests (t .cards) (t .digits) (t .groups) (rowAt (t .rows) (ruleNumber r - 1)) r (transferAt e (claim r - 1)) ++
+    ((20 ⇒ isLinked left (next r) records) ∷ []))

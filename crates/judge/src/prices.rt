@@ -1,0 +1,120 @@
+// Question 18, what a price may be, and question 21, how often each transfer is asked as one.
+use crate::limits;
+use crate::tables::at_most;
+use crate::tables::card_of;
+use crate::transfers::Transfer;
+use crate::transfers::same;
+use crate::transfers::transfer_at;
+ghost use mathlib.Core.Path.{_≡_};
+ghost use mathlib.Core.List.{[], _∷_};
+ghost use Prim.Native.Nat.{_<_};
+ghost use lib.Dec.{leb};
+ghost use Rattle.model.specs.Limits.{priceLimit};
+ghost use Rattle.model.specs.Transfers.{transferAt, exchangeOf, count};
+ghost use Rattle.model.specs.Fairness.{isPayable};
+ghost use Rattle.judge.specs.Parts.{IsRow, IsRecord, Short, transfers, transferOf};
+ghost use Rattle.judge.specs.Rows.{priceAt, pricesAt, allPayable};
+ghost use Rattle.judge.specs.Counts.{Room, Asks, isPaid};
+
+// The transfer that price i of the row asks under the record's cards.
+fn price_at(row: &[u8], rec: &[u8], i: usize) -> Transfer
+    requires { ⌜ (IsRow (now row)) × (IsRecord (now rec)) × (i < priceLimit) ⌝ }
+    ensures { λ r. ⌜ transferOf r ≡ priceAt (now (row .entry)) (now (rec .entry)) i ⌝ }
+{
+    let at = i * limits::ENTRY_SIZE;
+    let from = limits::CARDS + (row[limits::PRICE_GIVER + at] % limits::VARIABLE_COUNT) as usize;
+    Transfer {
+        giver: rec[from],
+        kind: row[limits::PRICE_KIND + at],
+        receiver: card_of(rec, row[limits::OWNER], row[limits::PRICE_RECEIVER + at]),
+    }
+}
+
+// Giver and receiver differ, and the giver is not the owner.
+fn is_payable(owner: u8, t: Transfer) -> bool
+    ensures { λ r. ⌜ r ≡ isPayable owner (transferOf t) ⌝ }
+{
+    (t.giver != t.receiver) & (t.giver != owner)
+}
+
+// Question 18.
+pub(crate) fn all_payable(row: &[u8], rec: &[u8]) -> bool
+    requires { ⌜ (IsRow (now row)) × (IsRecord (now rec)) ⌝ }
+    ensures { λ r. ⌜ r ≡ allPayable (now (row .entry)) (now (rec .entry)) ⌝ }
+{
+    let owner = row[limits::OWNER];
+    let n = at_most(row[limits::PRICES], limits::PRICE_LIMIT) as usize;
+    for i in 0..n {
+        if !is_payable(owner, price_at(row, rec, i)) {
+            return false;
+        }
+    }
+    true
+}
+
+// How often the transfer occurs in the exchange.
+fn occurrences(exchange: &[u8], t: Transfer) -> u8
+    requires { ⌜ Short (now exchange) ⌝ }
+    ensures { λ r. ⌜ r ≡ count (transferOf t) (exchangeOf (now (exchange .entry))) ⌝ }
+{
+    let n = exchange.len() / limits::TRANSFER_SIZE;
+    let mut sum: u8 = 0;
+    for j in 0..n {
+        sum += same(t, transfer_at(exchange, j));
+    }
+    sum
+}
+
+// One more at each transfer that is the given one; whether there is any.
+fn ask(exchange: &[u8], t: Transfer, counts: &mut [u8; 32]) -> bool
+    requires { ⌜ (Short (now exchange)) × (Room (now exchange) 1 (now counts)) ⌝ }
+    ensures { λ r. ⌜ Asks (now (exchange .entry)) (transferOf t ∷ []) (now (counts .entry)) (now (counts .exit)) r ⌝ }
+{
+    let n = exchange.len() / limits::TRANSFER_SIZE;
+    let mut sum: u8 = 0;
+    for j in 0..n {
+        let one = same(t, transfer_at(exchange, j));
+        counts[j] = counts[j] + one;
+        sum += one;
+    }
+    0 < sum
+}
+
+// Every price of the row asked; whether each is a transfer of the exchange.
+pub(crate) fn ask_prices(exchange: &[u8], row: &[u8], rec: &[u8], counts: &mut [u8; 32]) -> bool
+    requires { ⌜ (Short (now exchange)) × (IsRow (now row)) × (IsRecord (now rec)) × (Room (now exchange) 4 (now counts)) ⌝ }
+    ensures { λ r. ⌜ Asks (now (exchange .entry)) (pricesAt (now (row .entry)) (now (rec .entry))) (now (counts .entry)) (now (counts .exit)) r ⌝ }
+{
+    let n = at_most(row[limits::PRICES], limits::PRICE_LIMIT) as usize;
+    let mut all = true;
+    for i in 0..n {
+        let found = ask(exchange, price_at(row, rec, i), counts);
+        all = all & found;
+    }
+    all
+}
+
+// Transfer j occurs at least as often as it is asked.
+fn is_met(exchange: &[u8], j: usize, asked: u8) -> bool
+    requires { ⌜ (Short (now exchange)) × (j < transfers (now exchange)) ⌝ }
+    ensures { λ r. ⌜ r ≡ leb asked (count (transferAt (now (exchange .entry)) j) (exchangeOf (now (exchange .entry)))) ⌝ }
+{
+    asked <= occurrences(exchange, transfer_at(exchange, j))
+}
+
+// Question 21: no price is missing, and each transfer is asked at most as often as it occurs.
+pub(crate) fn is_paid(exchange: &[u8], counts: &[u8; 32], missing: bool) -> bool
+    requires { ⌜ Short (now exchange) ⌝ }
+    ensures { λ r. ⌜ r ≡ isPaid (now (exchange .entry)) (now (counts .entry)) missing ⌝ }
+{
+    if missing {
+        return false;
+    }
+    let n = exchange.len() / limits::TRANSFER_SIZE;
+    for j in 0..n {
+        if !is_met(exchange, j, counts[j]) {
+            return false;
+        }
+    }
+    true
+}

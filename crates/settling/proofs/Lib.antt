@@ -1,0 +1,5 @@
+pub mod HoldingPlaces
+pub mod Transfers
+pub mod MoveLaws
+pub mod FinishLaws
+pub mod JudgedLaws

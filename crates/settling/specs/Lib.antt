@@ -1,0 +1,4 @@
+pub mod View
+pub mod Settles
+pub mod Moves
+pub mod Finish

@@ -1,0 +1,46 @@
+-- What the steps of a settlement that has been judged promise: question 22, all gifts taken, all receipts added. These are private
+-- contracts: nothing here has to be believed.
+use mathlib.Core.Path.{_≡_}
+use mathlib.Core.Bool.{Bool}
+use mathlib.Core.List.{List}
+use Prim.Native.Nat.{ℕ, _+_, _*_, _≤_, _<_}
+use lib.Dec.{leb}
+use lib.ListN.{length, getD}
+use Rattle.model.specs.Limits.{kindCount, sumLimit, transferSize}
+use Rattle.model.specs.Lists.{every, upTo}
+use Rattle.model.specs.Transfers.{transferAt, exchangeOf}
+use Rattle.model.specs.Holdings.{gives, receives}
+use Rattle.settling.specs.View.{Ranged, stateFrom}
+
+-- what questions 12 and 13 have shown of an exchange of n transfers
+pub record Proper (e : List ℕ) (n : ℕ) : Type 0 where
+  pub size : length e ≡ n * transferSize
+  pub few : n ≤ 32
+  pub givers : (i : ℕ) → i < n → Ranged (transferAt e i .giver) (transferAt e i .kind)
+  pub receivers : (i : ℕ) → i < n → Ranged (transferAt e i .receiver) (transferAt e i .kind)
+
+-- and question 22
+pub record Coverable (h e : List ℕ) (n : ℕ) : Type 0 where
+  pub proper : Proper e n
+  pub long : length h ≡ 512
+  pub enough : (c k : ℕ) → gives c k (exchangeOf e) ≤ stateFrom h .held c k
+
+-- the holdings h′ are h less what e gives
+pub record Taken (h e h′ : List ℕ) : Type 0 where
+  pub long : length h′ ≡ 512
+  pub less : (c k : ℕ) → stateFrom h′ .held c k + gives c k (exchangeOf e) ≡ stateFrom h .held c k
+
+-- the holdings h′ are h and what e brings
+pub record Brought (h e h′ : List ℕ) : Type 0 where
+  pub long : length h′ ≡ 512
+  pub more : (c k : ℕ) → stateFrom h′ .held c k ≡ stateFrom h .held c k + receives c k (exchangeOf e)
+
+-- each holding of the first n cards is at most the limit
+unfoldable pub allLimited : List ℕ → ℕ → Bool
+allLimited h n = every (λ x. leb x sumLimit) (upTo (λ i. getD h i 0) (n * kindCount))
+
+-- every receiver has room for what it receives
+pub record Roomy (h e : List ℕ) (n : ℕ) : Type 0 where
+  pub proper : Proper e n
+  pub long : length h ≡ 512
+  pub room : (i : ℕ) → i < n → stateFrom h .held (transferAt e i .receiver) (transferAt e i .kind) ≤ sumLimit
