@@ -15,7 +15,7 @@ use Rattle.model.specs.Questions.{Question, _⇒_, inOrder}
 use Rattle.model.specs.Book.{declared}
 use Rattle.model.specs.Holdings.{total, sumTo}
 use Rattle.model.specs.Calls.{Call, issue, redeem, query, accountQuestions, amount, changed, replyTo, after}
-use Rattle.model.proofs.Tests.{T-eq, eq-T, eqb-same, within→, →within}
+use Rattle.model.proofs.Tests.{eq-T, never-true, eqb-same, within-true, true-within}
 use Rattle.model.proofs.Places.{upTo-length}
 use Rattle.model.proofs.Sums.{sum-part}
 use Rattle.rulebook.specs.View.{bookFrom, cardView}
@@ -29,25 +29,18 @@ use Rattle.settling.proofs.HoldingPlaces.{held-at, held-set}
 
 -- ---- questions 8 and 9
 
-no-within : (n m : ℕ) → (1 ≤ n → n ≤ m → ⊥) → within n m ≡ false
-no-within n m f = go (within n m) refl
-  where
-    go : (x : Bool) → within n m ≡ x → within n m ≡ false
-    go true e = let w = within→ n m (eq-T e) in absurd (f (w .0) (w .1))
-    go false e = e
-
 module _ (n c k : ℕ) where
   pub undeclared : (1 ≤ c → c ≤ min n cardLimit → ⊥) → 8 ≡ accountRefusal n c k
   unfolding accountRefusal
-  undeclared f = rw (no-within c (min n cardLimit) f)
+  undeclared f = rw (never-true (within c (min n cardLimit)) (λ e. let w = within-true c (min n cardLimit) e in f (w .0) (w .1)))
 
   pub unknown : 1 ≤ c → c ≤ min n cardLimit → (1 ≤ k → k ≤ kindCount → ⊥) → 9 ≡ accountRefusal n c k
   unfolding accountRefusal
-  unknown l m f = rw (T-eq (within c (min n cardLimit)) (→within c (min n cardLimit) l m), no-within k kindCount f)
+  unknown l m f = rw (true-within c (min n cardLimit) l m, never-true (within k kindCount) (λ e. let w = within-true k kindCount e in f (w .0) (w .1)))
 
   pub met : 1 ≤ c → c ≤ min n cardLimit → 1 ≤ k → k ≤ kindCount → 0 ≡ accountRefusal n c k
   unfolding accountRefusal
-  met l m p q = rw (T-eq (within c (min n cardLimit)) (→within c (min n cardLimit) l m), T-eq (within k kindCount) (→within k kindCount p q))
+  met l m p q = rw (true-within c (min n cardLimit) l m, true-within k kindCount p q)
 
 -- a card of the engine and a kind
 pub record Account (n c k : ℕ) : Type 0 where
@@ -61,8 +54,8 @@ account-met n c k q e z = go (within c (min n cardLimit)) (within k kindCount) r
   where
     go : (x y : Bool) → within c (min n cardLimit) ≡ x → within k kindCount ≡ y → _≡_ {A = ℕ} (cond x (cond y 0 9) 8) 0 → Account n c k
     go true true f g h =
-        let p = within→ c (min n cardLimit) (eq-T f) in
-        let r = within→ k kindCount (eq-T g) in
+        let p = within-true c (min n cardLimit) f in
+        let r = within-true k kindCount g in
         record { ranged = record { c-low = p .0; c-high = omega arith; k-low = r .0; k-high = r .1 }; declared = f; kind = g }
     go true false f g h = absurd (omega arith)
     go false y f g h = absurd (omega arith)

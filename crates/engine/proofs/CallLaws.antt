@@ -2,13 +2,14 @@
 use mathlib.Core.Path.{_≡_, refl, sym, _∙_}
 use mathlib.Core.Bool.{Bool, true, false, _&&_, cond}
 use mathlib.Core.List.{List}
-use Prim.Native.Nat.{ℕ, zero, suc}
+use Prim.Native.Nat.{ℕ}
 use native.Mathlib.Omega.{arith}
 use lib.ListN.{getD, replicate}
 use Rattle.model.specs.Limits.{cardLimit, kindCount}
 use Rattle.model.specs.Lists.{within}
 use Rattle.model.specs.Holdings.{noHoldings}
 use Rattle.model.specs.Calls.{settle}
+use Rattle.model.proofs.Places.{zeros}
 use Rattle.answers.specs.declared.Answer.the-variants as answer
 use Rattle.rulebook.specs.declared.Reading.{Reading}
 use Rattle.rulebook.specs.Reads.{Reads}
@@ -18,11 +19,6 @@ use Rattle.engine.specs.Contracts.{Opens, Answers}
 use Rattle.engine.specs.declared.Engine.{Engine}
 use Rattle.engine.specs.declared.Reply.the-variants.{Done, Refused}
 use Rattle.engine.proofs.AccountLaws.{refuses, answers, withHoldings}
-
-zero-at : (n j : ℕ) → _≡_ {A = ℕ} (getD (replicate n 0) j 0) 0
-zero-at zero j = refl
-zero-at (suc n) zero = refl
-zero-at (suc n) (suc j) = zero-at n j
 
 -- zeros alone hold nothing
 none-held : stateFrom (replicate 512 0) ≡ noHoldings
@@ -34,7 +30,7 @@ none-held = λ i. record { held = λ c k. nothing c k i }
     pick false n e = refl
 
     nothing : (c k : ℕ) → cond (within c cardLimit && within k kindCount) (getD (replicate 512 0) (spot c k) 0) 0 ≡ noHoldings .held c k
-    nothing c k = pick (within c cardLimit && within k kindCount) (getD (replicate 512 0) (spot c k) 0) (zero-at 512 (spot c k))
+    nothing c k = pick (within c cardLimit && within k kindCount) (getD (replicate 512 0) (spot c k) 0) (zeros 512 (spot c k))
 
 pub opens : (text : List ℕ) (r : Reading) → Reads r text → Opens text (r .answer) (record {
   holdings = replicate 512 0;

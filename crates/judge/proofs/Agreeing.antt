@@ -16,14 +16,13 @@ use Rattle.model.specs.Book.{Book, declared}
 use Rattle.model.specs.Transfers.{Transfer, Exchange, transferAt, exchangeOf, noTransfer}
 use Rattle.model.specs.Fairness.{pricesOf, variables, isPayable, holds}
 use Rattle.model.specs.Proof.{next, claim, ruleNumber, cards, ruleOf, claimed, marked, allClaimed, uses, recordQuestions}
-use Rattle.model.proofs.Tests.{both-true}
+use Rattle.model.proofs.Tests.{both-true, cond-cong, within-true}
 use Rattle.model.proofs.Places.{upTo-length, upTo-at}
 use Rattle.model.proofs.Soundness.{unclaimed, unclaimed-set, all-claimed}
 use Rattle.rulebook.specs.View.{ruleView, rowAt}
 use Rattle.judge.specs.Parts.{Parts, Limited, bookWith, transfers}
 use Rattle.judge.specs.Rows.{below, ownerOf, headOf, cardsFit}
 use Rattle.judge.specs.Records.{firstUnmet, isClaimable, isLinked, ruleTests, recordTests}
-use Rattle.judge.proofs.Tests.{cond-cong, within-true}
 use Rattle.judge.proofs.Letters.{fits≡}
 use Rattle.judge.proofs.Issuers.{payable≡, cards-length, rules-length, rule-at, holds≡}
 

@@ -17,7 +17,7 @@ use Rattle.model.specs.Calls.{isSized, judging}
 use Rattle.model.proofs.Tests.{both-true}
 use Rattle.rulebook.specs.View.{bookFrom}
 use Rattle.judge.specs.Parts.{Parts, parts, bookWith, Limited, isProperOf, Recorded}
-use Rattle.judge.proofs.Loops.{failing-every}
+use Rattle.model.proofs.Loops.{failing-every}
 use Rattle.judge.proofs.Issuers.{cards-length}
 
 pub short : (e : List ℕ) → isSized 3 96 e ≡ true → length e ≤ 96

@@ -15,7 +15,7 @@ use Rattle.model.specs.Grammar.{Rule}
 use Rattle.model.specs.Transfers.{Exchange, contained, transferAt, exchangeOf}
 use Rattle.model.specs.Fairness.{pricesOf}
 use Rattle.model.specs.Proof.{recordAt, next, claim, ruleNumber, cards, asked, marked, recordQuestions, chain, judge}
-use Rattle.model.proofs.Tests.{both-true}
+use Rattle.model.proofs.Tests.{both-true, within-true}
 use Rattle.model.proofs.Places.{upTo-length}
 use Rattle.model.proofs.Soundness.{unclaimed, unclaimed-set, unclaimed-first}
 use Rattle.rulebook.specs.View.{rowAt}
@@ -23,7 +23,6 @@ use Rattle.judge.specs.Parts.{Parts, Limited, bookWith, transfers}
 use Rattle.judge.specs.Rows.{priceCount, priceAt, pricesAt}
 use Rattle.judge.specs.Records.{firstUnmet, isClaimable, isLinked, ruleTests, recordTests}
 use Rattle.judge.specs.Counts.{Room, Asks, isPaid}
-use Rattle.judge.proofs.Tests.{within-true}
 use Rattle.judge.proofs.Paying.{noCounts, asks-none, asks-more, asks-swap, counts-room, paid≡}
 use Rattle.judge.proofs.Asking.{unmet-append, first-refuses}
 use Rattle.judge.proofs.Issuers.{prices≡, rule-at}

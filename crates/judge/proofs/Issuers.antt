@@ -19,8 +19,8 @@ use Rattle.model.proofs.Places.{upTo-length, upTo-at}
 use Rattle.rulebook.specs.View.{cardView, memberView, nameView, priceView, conditionView, ruleView, rowAt, bookFrom}
 use Rattle.judge.specs.Parts.{Parts, Limited, bookWith}
 use Rattle.judge.specs.Rows.{below, ownerOf, cardAt, priceCount, conditionCount, priceAt, pricesAt, allPayable, sameDigit, samePrefixOf, conditionHolds, allHold}
-use Rattle.judge.proofs.Tests.{and-assoc, and-true-right, within-true}
-use Rattle.judge.proofs.Loops.{every-last, every-places, every-cong}
+use Rattle.model.proofs.Tests.{and-assoc, and-true-right, within-true}
+use Rattle.model.proofs.Loops.{every-last, every-places, every-cong}
 
 -- ---- prices
 

@@ -14,12 +14,11 @@ use Rattle.model.specs.Grammar.{Price, Condition, inGroup, sameIssuer, isVariab
 use Rattle.model.specs.Book.{Book, declared}
 use Rattle.model.specs.Fairness.{nameVariables, priceVariables, conditionVariables, variables}
 use Rattle.model.specs.Proof.{cards, uses}
-use Rattle.model.proofs.Tests.{T-eq, eq-T, both, and, or-right, eqb-same, every-at, every-in}
+use Rattle.model.proofs.Tests.{T-eq, eq-T, both, and, or-right, eqb-same, every-at, every-in, lt-or-ge, bool-ext, or-false-right}
 use Rattle.model.proofs.Places.{upTo-length, upTo-at, every-upTo}
 use Rattle.rulebook.specs.View.{nameView, priceView, conditionView, ruleView}
 use Rattle.judge.specs.Rows.{below, priceCount, conditionCount, inPrice, inCondition, inRule, variableFits}
-use Rattle.judge.proofs.Tests.{lt-or-ge, bool-ext, or-false-right}
-use Rattle.judge.proofs.Loops.{every-both, any-both, any-last, every-cong}
+use Rattle.model.proofs.Loops.{every-both, any-both, any-last, every-cong}
 
 -- ---- the variables of a row, price by price and condition by condition
 

@@ -1,5 +1,3 @@
-pub mod Tests
-pub mod Loops
 pub mod Slices
 pub mod Paying
 pub mod Asking

@@ -11,13 +11,12 @@ use lib.ListN.{length, getD, set, replicate, length-set, length-replicate, getD-
 use lib.Seq.{getD-set-same, getD-set-other}
 use Rattle.model.specs.Lists.{every, upTo}
 use Rattle.model.specs.Transfers.{Transfer, Exchange, same, count, contained, transferAt, exchangeOf}
-use Rattle.model.proofs.Tests.{both, and}
+use Rattle.model.proofs.Tests.{both, and, and-true-right, bool-ext}
 use Rattle.model.proofs.Places.{upTo-more, upTo-length}
 use Rattle.model.proofs.Counting.{compare, same-refl, count-append, every-count, contained→}
 use Rattle.judge.specs.Parts.{transfers}
 use Rattle.judge.specs.Counts.{occurs, Room, Asks, isPaid}
-use Rattle.judge.proofs.Tests.{and-true-right, bool-ext}
-use Rattle.judge.proofs.Loops.{every-both, every-places, every-cong, count-more}
+use Rattle.model.proofs.Loops.{every-both, every-places, every-cong, count-more}
 
 -- ---- counts of one transfer
 

@@ -12,6 +12,7 @@ pub mod Cuts
 pub mod Texts
 pub mod RuleVariables
 pub mod Counting
+pub mod Loops
 pub mod Permutations
 pub mod Backing
 pub mod Soundness

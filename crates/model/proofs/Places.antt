@@ -9,12 +9,17 @@ use native.Mathlib.Nat.{eq-or-lt-of-le}
 use native.Mathlib.Decide.{le-ind}
 use native.Mathlib.Numerals.{add-one}
 use lib.Dec.{T, eqb}
-use lib.ListN.{length, getD, length-append, List·getD-append}
+use lib.ListN.{length, getD, replicate, length-append, List·getD-append}
 use lib.Seq.{getD-at}
 use borrow.Author.Tests.{eq-eqb, ne-eqb, eqb-true}
 use Rattle.model.specs.Lists.{every, any, upTo, oneTo}
 use Rattle.model.specs.Reader.{leading}
 use Rattle.model.proofs.Tests.{and, every-append, eqb-ne, or-right}
+
+pub zeros : (n i : ℕ) → _≡_ {A = ℕ} (getD (replicate n 0) i 0) 0
+zeros zero i = refl
+zeros (suc n) zero = refl
+zeros (suc n) (suc i) = zeros n i
 
 module _ {A : Type 0} where
   pub upTo-more : (f : ℕ → A) (n : ℕ) → upTo f (n + 1) ≡ upTo f n ++ (f n ∷ [])

@@ -1,12 +1,13 @@
 -- Laws of tests: what a passed test says, and tests over lists.
 use mathlib.Core.Path.{_≡_, refl, sym, ap, _∙_, subst}
-use mathlib.Core.Bool.{Bool, true, false, not, _&&_, _||_, true≢false}
+use mathlib.Core.Bool.{Bool, true, false, not, cond, _&&_, _||_, true≢false}
 use mathlib.Core.Logic.{_⊎_, inl, inr, _≢_}
 use mathlib.Core.List.{List, [], _∷_, _++_}
 use Prim.Native.Nat.{ℕ, zero, suc, _≤_, _<_}
 use native.Mathlib.Omega.{arith}
-use lib.Dec.{T, eqb, leb, eqb→eq, eqb-refl, leb→le, le→leb}
+use lib.Dec.{T, eqb, leb, ltb, eqb→eq, eqb-refl, leb→le, le→leb}
 use lib.ListN.{length, getD}
+use borrow.Author.Tests.{ltb-true, ltb-false}
 use Rattle.model.specs.Lists.{within, every, any}
 
 -- ---- a test as a type and as an equation
@@ -42,6 +43,51 @@ pub or-right : (a b : Bool) → T b → T (a || b)
 or-right true b h = tt
 or-right false b h = h
 
+-- ---- Booleans
+
+pub and-assoc : (a b c : Bool) → ((a && b) && c) ≡ (a && (b && c))
+and-assoc true b c = refl
+and-assoc false b c = refl
+
+pub or-assoc : (a b c : Bool) → ((a || b) || c) ≡ (a || (b || c))
+or-assoc true b c = refl
+or-assoc false b c = refl
+
+pub and-true-right : (a : Bool) → (a && true) ≡ a
+and-true-right true = refl
+and-true-right false = refl
+
+pub and-false-right : (a : Bool) → (a && false) ≡ false
+and-false-right true = refl
+and-false-right false = refl
+
+pub or-true-right : (a : Bool) → (a || true) ≡ true
+or-true-right true = refl
+or-true-right false = refl
+
+pub or-false-right : (a : Bool) → (a || false) ≡ a
+or-false-right true = refl
+or-false-right false = refl
+
+pub not-not : (b : Bool) → not (not b) ≡ b
+not-not true = refl
+not-not false = refl
+
+-- two tests that pass together are equal
+pub bool-ext : (a b : Bool) → (T a → T b) → (T b → T a) → a ≡ b
+bool-ext true true f g = refl
+bool-ext true false f g = absurd (f tt)
+bool-ext false true f g = absurd (g tt)
+bool-ext false false f g = refl
+
+pub never-true : (b : Bool) → (b ≡ true → ⊥) → b ≡ false
+never-true true f = absurd (f refl)
+never-true false f = refl
+
+pub cond-cong : {A : Type 0} (t : Bool) (u v w : A) → (t ≡ true → u ≡ v) → cond t u w ≡ cond t v w
+cond-cong true u v w h = h refl
+cond-cong false u v w h = refl
+
 -- ---- numbers
 
 pub eqb-same : (n : ℕ) → eqb n n ≡ true
@@ -62,6 +108,19 @@ within→ n m h = let p = both (leb 1 n) _ h in (leb→le 1 n (p .0), leb→le n
 
 pub →within : (n m : ℕ) → 1 ≤ n → n ≤ m → T (within n m)
 →within n m h k = and (leb 1 n) (leb n m) (le→leb 1 n h) (le→leb n m k)
+
+pub within-true : (n m : ℕ) → within n m ≡ true → (1 ≤ n) × (n ≤ m)
+within-true n m h = within→ n m (eq-T h)
+
+pub true-within : (n m : ℕ) → 1 ≤ n → n ≤ m → within n m ≡ true
+true-within n m h k = T-eq (within n m) (→within n m h k)
+
+pub lt-or-ge : (a b : ℕ) → (a < b) ⊎ (b ≤ a)
+lt-or-ge a b = go (ltb a b) refl
+  where
+    go : (t : Bool) → ltb a b ≡ t → (a < b) ⊎ (b ≤ a)
+    go true e = inl (ltb-true a b e)
+    go false e = inr (ltb-false a b e)
 
 pub zero-or-more : (n : ℕ) → (n ≡ 0) ⊎ (1 ≤ n)
 zero-or-more zero = inl refl

@@ -2,18 +2,19 @@
 use mathlib.Core.Path.{_≡_, refl, sym, _∙_, ap, fun-ext}
 use mathlib.Core.Bool.{Bool, true, false, not, _&&_, _||_}
 use mathlib.Core.List.{List, [], _∷_, _++_}
-use Prim.Native.Nat.{ℕ, zero, suc, _+_, _*_, _-_, _≤_, _<_, min, max}
+use Prim.Native.Nat.{ℕ, _+_, _*_, _-_, _≤_, _<_, min, max}
 use native.Mathlib.Omega.{arith}
 use native.Mathlib.Nat.{min-eq-left}
-use lib.Dec.{eqb, leb}
-use lib.ListN.{length, getD, set, take, drop, replicate, List·getD-append}
+use lib.Dec.{eqb}
+use lib.ListN.{length, getD, set, take, drop, List·getD-append}
 use lib.Seq.{paste, length-paste-head, length-take-le, getD-append-add, getD-take, getD-set-same, getD-set-other, ext-getD}
-use borrow.Author.Tests.{eqb-true, eqb-false, leb-true, le-leb}
+use borrow.Author.Tests.{eqb-true, eqb-false, le-leb}
 use Rattle.model.specs.Lists.{within, upTo}
 use Rattle.model.specs.Grammar.{card, group, rule}
 use Rattle.model.specs.Book.{noBook}
 use Rattle.model.specs.Opening.{withLine}
-use Rattle.model.proofs.Places.{upTo-more, upTo-cong, upTo-length, upTo-at}
+use Rattle.model.proofs.Tests.{within-true, and-false-right, or-true-right, or-false-right}
+use Rattle.model.proofs.Places.{upTo-more, upTo-cong, upTo-length, upTo-at, zeros}
 use Rattle.rulebook.specs.View.{cardView, memberView, ruleView, rowAt, bookFrom, bookOf}
 use Rattle.rulebook.specs.Reads.{noTables}
 use Rattle.rulebook.specs.Lines.{tables}
@@ -101,14 +102,6 @@ module _ (t : Tables) (row : List ℕ) (room : t .rules < 56) (sized : length ro
 
 -- ---- a member more
 
-within-le : (n m : ℕ) → within n m ≡ true → (1 ≤ n) × (n ≤ m)
-within-le n m e = go (leb 1 n) (leb n m) refl refl e
-  where
-    go : (a b : Bool) → leb 1 n ≡ a → leb n m ≡ b → (a && b) ≡ true → (1 ≤ n) × (n ≤ m)
-    go true true p q e = (leb-true 1 n p, leb-true n m q)
-    go true false p q e = absurd (let z : _≡_ {A = ℕ} 0 1 = cc in omega arith)
-    go false b p q e = absurd (let z : _≡_ {A = ℕ} 0 1 = cc in omega arith)
-
 module _ (groups : List ℕ) (g m : ℕ) (g-low : 1 ≤ g) (g-high : g ≤ 8) (m-low : 1 ≤ m) (m-high : m ≤ 32) (wide : length groups ≡ 256) where
   abbrev spot : ℕ → ℕ → ℕ
   spot h n = (n - 1) * 8 + (h - 1)
@@ -125,8 +118,8 @@ module _ (groups : List ℕ) (g m : ℕ) (g-low : 1 ≤ g) (g-high : g ≤ 8) (m
       go : (a b : Bool) → within h 8 ≡ a → within n 32 ≡ b
           → ((a && b) && not (eqb (getD (set groups (spot g m) 1) (spot h n) 0) 0)) ≡ ((a && b) && not (eqb (getD groups (spot h n) 0) 0))
       go true true p q =
-          let i = within-le h 8 p in
-          let j = within-le n 32 q in
+          let i = within-true h 8 p in
+          let j = within-true n 32 q in
           rw (getD-set-other groups (spot g m) (spot h n) 1 0 (λ e. d ((omega (arith, i, j, e)), (omega (arith, i, j, e)))))
       go true false p q = refl
       go false b p q = refl
@@ -134,18 +127,10 @@ module _ (groups : List ℕ) (g m : ℕ) (g-low : 1 ≤ g) (g-high : g ≤ 8) (m
   member-more : (h n : ℕ) → memberView (set groups (spot g m) 1) h n ≡ (memberView groups h n || (eqb h g && eqb n m))
   member-more h n = go (eqb h g) (eqb n m) refl refl
     where
-      or-true : (b : Bool) → (b || true) ≡ true
-      or-true true = refl
-      or-true false = refl
-
-      or-false : (b : Bool) → b ≡ (b || false)
-      or-false true = refl
-      or-false false = refl
-
       go : (a b : Bool) → eqb h g ≡ a → eqb n m ≡ b → memberView (set groups (spot g m) 1) h n ≡ (memberView groups h n || (a && b))
-      go true true p q = rw (eqb-true h g p, eqb-true n m q) (member-here ∙ sym (or-true (memberView groups g m)))
-      go true false p q = member-there h n (λ e. eqb-false n m q (e .1)) ∙ or-false (memberView groups h n)
-      go false b p q = member-there h n (λ e. eqb-false h g p (e .0)) ∙ or-false (memberView groups h n)
+      go true true p q = rw (eqb-true h g p, eqb-true n m q) (member-here ∙ sym (or-true-right (memberView groups g m)))
+      go true false p q = member-there h n (λ e. eqb-false n m q (e .1)) ∙ sym (or-false-right (memberView groups h n))
+      go false b p q = member-there h n (λ e. eqb-false h g p (e .0)) ∙ sym (or-false-right (memberView groups h n))
 
 pub group-grown : (t : Tables) (g m : ℕ) → 1 ≤ g → g ≤ 8 → 1 ≤ m → m ≤ 32 → length (t .groups) ≡ 256
     → bookOf (tables (t .cards) (t .digits) (t .lengths) (set (t .groups) ((m - 1) * 8 + (g - 1)) 1) (t .rules) (t .rows)) ≡ withLine (bookOf t) (group g m)
@@ -156,17 +141,8 @@ group-grown t g m a b d e l =
 
 -- ---- the empty tables
 
-zeros : (n k : ℕ) → _≡_ {A = ℕ} (getD (replicate n 0) k 0) 0
-zeros zero k = refl
-zeros (suc n) zero = refl
-zeros (suc n) (suc k) = zeros n k
-
-and-false : (b : Bool) → (b && false) ≡ false
-and-false true = refl
-and-false false = refl
-
 pub no-tables : bookOf noTables ≡ noBook
 unfolding bookFrom memberView
 no-tables =
     ap (λ (f : ℕ → ℕ → Bool). record { cards = []; member = f; rules = [] })
-    (fun-ext (λ g. fun-ext (λ m. rw (zeros 256 ((m - 1) * 8 + (g - 1))) (and-false (within g 8 && within m 32)))))
+    (fun-ext (λ g. fun-ext (λ m. rw (zeros 256 ((m - 1) * 8 + (g - 1))) (and-false-right (within g 8 && within m 32)))))

@@ -1,26 +1,22 @@
 -- The search for an equal card: cards before i are unlike the digits, and card i is told from them by its length or by one digit.
 use mathlib.Core.Path.{_≡_, refl, sym, _∙_, ap}
-use mathlib.Core.Bool.{Bool, true, false, _||_}
-use mathlib.Core.List.{List, [], _∷_, _++_, map}
-use Prim.Native.Nat.{ℕ, suc, _+_, _*_, _<_, min, max}
+use mathlib.Core.Bool.{true, false}
+use mathlib.Core.List.{List, [], _∷_, map}
+use Prim.Native.Nat.{ℕ, _+_, _*_, _<_, min, max}
 use native.Mathlib.Omega.{arith}
-use native.Mathlib.Decide.{le-ind}
 use lib.Dec.{eqb}
 use lib.ListN.{length, getD, length-map}
 use lib.Seq.{ext-getD}
 use borrow.Author.Tests.{eq-eqb, eqb-true}
 use Rattle.model.specs.Lists.{any, eqList, upTo}
 use Rattle.model.specs.Reader.{digitOf}
-use Rattle.model.proofs.Tests.{both-true}
-use Rattle.model.proofs.Places.{upTo-more, upTo-length, upTo-at}
+use Rattle.model.proofs.Tests.{both-true, never-true}
+use Rattle.model.proofs.Loops.{any-more, any-stop}
+use Rattle.model.proofs.Places.{upTo-length, upTo-at}
 use Rattle.rulebook.specs.View.{cardView}
 use Rattle.rulebook.proofs.Digits.{AtByte, digit-at}
 
 -- ---- equal lists
-
-never-true : (b : Bool) → (b ≡ true → ⊥) → b ≡ false
-never-true true f = absurd (f refl)
-never-true false f = refl
 
 eqList-true : (xs ys : List ℕ) → eqList xs ys ≡ true → xs ≡ ys
 eqList-true [] [] p = refl
@@ -38,35 +34,6 @@ eqList-refl (x ∷ xs) = rw (eq-eqb x x refl, eqList-refl xs)
 
 eqList-same : (xs ys : List ℕ) → length xs ≡ length ys → ((k : ℕ) → k < length xs → getD xs k 0 ≡ getD ys k 0) → eqList xs ys ≡ true
 eqList-same xs ys l f = rw (ext-getD 0 xs ys l f) (eqList-refl ys)
-
--- ---- a test over a list that grows at its end
-
-or-false : (b : Bool) → (b || false) ≡ b
-or-false true = refl
-or-false false = refl
-
-or-true : (b : Bool) → (b || true) ≡ true
-or-true true = refl
-or-true false = refl
-
-or-assoc : (a b c : Bool) → (a || (b || c)) ≡ ((a || b) || c)
-or-assoc true b c = refl
-or-assoc false b c = refl
-
-module _ (p : List ℕ → Bool) where
-  any-last : (xs : List (List ℕ)) (y : List ℕ) → any p (xs ++ (y ∷ [])) ≡ (any p xs || p y)
-  any-last [] y = or-false (p y)
-  any-last (x ∷ xs) y = rw (any-last xs y) (or-assoc (p x) (any p xs) (p y))
-
-  module _ (f : ℕ → List ℕ) (i : ℕ) where
-    none-more : any p (upTo f i) ≡ false → p (f i) ≡ false → any p (upTo f (i + 1)) ≡ false
-    none-more a b = rw (upTo-more f i, any-last (upTo f i) (f i), a, b)
-
-    found : (n : ℕ) → p (f i) ≡ true → i < n → any p (upTo f n) ≡ true
-    found n b l =
-        le-ind {n = suc i} (λ m. any p (upTo f m) ≡ true)
-        (rw (any-last (upTo f i) (f i), b) (or-true (any p (upTo f i))))
-        (λ m k h. rw (any-last (upTo f m) (f m), h)) n l
 
 -- ---- card i
 
@@ -90,7 +57,7 @@ module _ (digits lengths s : List ℕ) (i : ℕ) where
   card-digit k l = upTo-at (λ d. getD digits (i * 19 + d) 0) (max 12 (min (getD lengths i 0) 19)) k 0 l
 
   unlike : Unlike digits lengths s i → (eqList (map digitOf s) (cardView digits lengths i) ≡ true → ⊥) → Unlike digits lengths s (i + 1)
-  unlike h f = none-more (eqList (map digitOf s)) (cardView digits lengths) i h (never-true _ f)
+  unlike h f = any-more (eqList (map digitOf s)) (cardView digits lengths) i h (never-true _ f)
 
   pub other-length : Unlike digits lengths s i → (max 12 (min (getD lengths i 0) 19) ≡ length s → ⊥) → Unlike digits lengths s (i + 1)
   other-length h f = unlike h (λ e. f (sym card-length ∙ sym (ap length (eqList-true (map digitOf s) _ e)) ∙ length-map s digitOf))
@@ -106,10 +73,10 @@ module _ {digits lengths s : List ℕ} {i d : ℕ} (a : Alike digits lengths s i
 
   pub equal-card : (n : ℕ) → d ≡ length s → i < n → any (eqList (map digitOf s)) (upTo (cardView digits lengths) n) ≡ true
   equal-card n e l =
-      found (eqList (map digitOf s)) (cardView digits lengths) i n
+      any-stop (eqList (map digitOf s)) (cardView digits lengths) i n n (a .before)
       (eqList-same (map digitOf s) (cardView digits lengths i)
       (length-map s digitOf ∙ sym (a .length-is) ∙ sym (card-length digits lengths s i))
       (λ k b. let b′ : k < length s = omega (arith, b, length-map s digitOf) in
       sym (digit-at {s = s} {i = k} (record { within = b′; digit = refl })) ∙ sym (a .digits-are k (omega (arith, b′, e)))
       ∙ sym (card-digit digits lengths s i k (omega (arith, a .length-is, b′)))))
-      l
+      l refl

@@ -1,6 +1,6 @@
 -- Questions 22 and 23 by what was computed: after the gifts are taken, and after the receipts are added.
-use mathlib.Core.Path.{_≡_, refl, sym, subst}
-use mathlib.Core.Bool.{Bool, true, false}
+use mathlib.Core.Path.{_≡_, sym, subst}
+use mathlib.Core.Bool.{true, false}
 use mathlib.Core.List.{List}
 use Prim.Native.Nat.{ℕ, suc, _*_, _/_, _%_, _≤_, _<_, min}
 use native.Mathlib.Omega.{arith}
@@ -12,7 +12,7 @@ use Rattle.model.specs.Book.{Book}
 use Rattle.model.specs.Transfers.{transferAt, exchangeOf}
 use Rattle.model.specs.Holdings.{State, isCovered, settled}
 use Rattle.model.specs.Calls.{endsLimited}
-use Rattle.model.proofs.Tests.{eq-T, every-at, every-in}
+use Rattle.model.proofs.Tests.{eq-T, bool-ext, every-at, every-in}
 use Rattle.model.proofs.Places.{upTo-length, upTo-at, every-upTo, every-oneTo, in-oneTo}
 use Rattle.model.proofs.Sums.{covered→}
 use Rattle.answers.specs.declared.Answer.the-variants.{Done, Refused}
@@ -20,12 +20,6 @@ use Rattle.settling.specs.View.{Ranged, spot, stateFrom}
 use Rattle.settling.specs.Moves.{Coverable, Taken, Brought, Roomy, allLimited}
 use Rattle.settling.specs.Finish.{Judged, Finished}
 use Rattle.settling.proofs.HoldingPlaces.{held-at}
-
-same-tests : (a b : Bool) → (T a → T b) → (T b → T a) → a ≡ b
-same-tests true true f g = refl
-same-tests true false f g = absurd (f tt)
-same-tests false true f g = absurd (g tt)
-same-tests false false f g = refl
 
 -- ---- the limit, place by place and card by card
 
@@ -92,13 +86,13 @@ module _ (cards : ℕ) (h e : List ℕ) (n : ℕ) (j : Judged cards e n) where
     where
       ends-fails : (b : Book) → length (b .cards) ≡ min cards cardLimit → endsLimited b (stateFrom h) (exchangeOf e) ≡ false
       ends-fails b l =
-          same-tests (endsLimited b (stateFrom h) (exchangeOf e)) false
+          bool-ext (endsLimited b (stateFrom h) (exchangeOf e)) false
           (λ f. subst T (sym x) (→limited h₁ m (omega arith) (λ d k r u. omega (arith, t .less d k, ends→ b (stateFrom h) e f d k r (omega arith)))))
           (λ f. absurd f)
 
   module _ (h₁ h₂ : List ℕ) (m : ℕ) (q : m ≡ min cards cardLimit) (c : true ≡ isCovered (stateFrom h) (exchangeOf e)) (t : Taken h e h₁) (w : Brought h₁ e h₂) where
     ends-is : (b : Book) → length (b .cards) ≡ min cards cardLimit → endsLimited b (stateFrom h) (exchangeOf e) ≡ allLimited h₂ m
-    ends-is b l = same-tests (endsLimited b (stateFrom h) (exchangeOf e)) (allLimited h₂ m)
+    ends-is b l = bool-ext (endsLimited b (stateFrom h) (exchangeOf e)) (allLimited h₂ m)
         (λ f. →limited h₂ m (omega arith) (λ c k r u. omega (arith, ended h₁ h₂ t w c k, ends→ b (stateFrom h) e f c k r (omega arith))))
         (λ f. →ends b (stateFrom h) e (omega arith) (λ c k r u. omega (arith, ended h₁ h₂ t w c k, limited-at h₂ m c k f r (omega arith))))
 

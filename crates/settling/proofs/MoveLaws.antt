@@ -16,7 +16,8 @@ use Rattle.model.proofs.Tests.{eqb-same}
 use Rattle.settling.specs.View.{spot, stateFrom}
 use Rattle.settling.specs.Moves.{Proper, Coverable, Taken, Brought, Roomy, allLimited}
 use Rattle.settling.proofs.HoldingPlaces.{held-at, store-cases}
-use Rattle.settling.proofs.Transfers.{firstOf, whole, along-more, along-part, along-few, every-more, every-stop}
+use Rattle.model.proofs.Loops.{every-more, every-stop}
+use Rattle.settling.proofs.Transfers.{firstOf, whole, along-more, along-part, along-few}
 
 -- ---- counting gifts
 
@@ -66,10 +67,10 @@ module _ (h e : List ℕ) (n : ℕ) (p : Proper e n) (i : ℕ) (l : i < n) (need
     all = every-more (enough h e) (transferAt e) i (d .all) (rw (← needs, ← held) (le-leb need (getD h at 0) m));
   }
 
-  pub covered-fails : getD h at 0 < need → isCovered (stateFrom h) (exchangeOf e) ≡ false
+  pub covered-fails : CoveredTo h e i n → getD h at 0 < need → isCovered (stateFrom h) (exchangeOf e) ≡ false
   unfolding isCovered
-  covered-fails m =
-      ap (every (enough h e)) (whole e n p) ∙ every-stop (enough h e) (transferAt e) i n (rw (← needs, ← held) (lt-leb need (getD h at 0) m)) l
+  covered-fails d m =
+      ap (every (enough h e)) (whole e n p) ∙ every-stop (enough h e) (transferAt e) i n n (d .all) (rw (← needs, ← held) (lt-leb need (getD h at 0) m)) l refl
 
 pub covered-all : (h e : List ℕ) (i n : ℕ) → Proper e n → CoveredTo h e i n → n ≤ i → isCovered (stateFrom h) (exchangeOf e) ≡ true
 unfolding isCovered
@@ -171,9 +172,10 @@ limited-more h i n d l m = record {
   all = every-more (λ x. leb x sumLimit) (λ j. getD h j 0) i (d .all) (le-leb (getD h i 0) sumLimit m);
 }
 
-pub limited-fails : (h : List ℕ) (i cards : ℕ) → i < cards * kindCount → sumLimit < getD h i 0 → allLimited h cards ≡ false
+pub limited-fails : (h : List ℕ) (i cards : ℕ) → LimitedTo h i (cards * kindCount) → i < cards * kindCount → sumLimit < getD h i 0 → allLimited h cards ≡ false
 unfolding allLimited
-limited-fails h i cards l m = every-stop (λ x. leb x sumLimit) (λ j. getD h j 0) i (cards * kindCount) (lt-leb (getD h i 0) sumLimit m) l
+limited-fails h i cards d l m =
+    every-stop (λ x. leb x sumLimit) (λ j. getD h j 0) i _ (cards * kindCount) (d .all) (lt-leb (getD h i 0) sumLimit m) l refl
 
 pub limited-all : (h : List ℕ) (i cards : ℕ) → LimitedTo h i (cards * kindCount) → cards * kindCount ≤ i → allLimited h cards ≡ true
 unfolding allLimited

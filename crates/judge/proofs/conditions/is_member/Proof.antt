@@ -1,14 +1,13 @@
 -- Past the test of the two bounds the flag is read.
 use borrow.Author.Needs.{needs}
 use native.Mathlib.Omega.{arith}
-use Rattle.model.proofs.Tests.{both-true}
+use Rattle.model.proofs.Tests.{both-true, within-true}
 use borrow.Author.Tests.{not-true, not-false}
 use Prim.Native.Nat.{_-_, _≤_}
 use mathlib.Core.Path.{_≡_}
 use mathlib.Core.Bool.{true, _&&_}
 use Rattle.model.specs.Lists.{within}
 use Rattle.rulebook.specs.View.{memberView}
-use Rattle.judge.proofs.Tests.{within-true}
 use Rattle.judge.proofs.conditions.is_member.Statement.{statement}
 use Rattle.judge.proofs.conditions.is_member.Tie as tie
 

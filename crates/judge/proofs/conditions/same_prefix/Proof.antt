@@ -1,13 +1,12 @@
 -- Two declared cards are compared by their digits; else the prefixes are the same where both are empty.
 use borrow.Author.Needs.{needs}
 use native.Mathlib.Omega.{arith}
-use Rattle.model.proofs.Tests.{both-true}
+use Rattle.model.proofs.Tests.{both-true, within-true}
 use Prim.Native.Nat.{_-_}
 use mathlib.Core.Path.{_≡_}
 use mathlib.Core.Bool.{true, _&&_}
 use Rattle.model.specs.Lists.{within}
 use Rattle.judge.specs.Rows.{samePrefixOf}
-use Rattle.judge.proofs.Tests.{within-true}
 use Rattle.judge.proofs.conditions.same_prefix.Statement.{statement}
 use Rattle.judge.proofs.conditions.same_prefix.Tie as tie
 

@@ -10,7 +10,7 @@ use Rattle.model.specs.Lists.{every}
 use Rattle.model.specs.Transfers.{count, transferAt, exchangeOf}
 use Rattle.judge.specs.Rows.{below}
 use Rattle.judge.specs.Counts.{isPaid}
-use Rattle.judge.proofs.Loops.{every-more, every-stop, every-end}
+use Rattle.model.proofs.Loops.{every-more, every-stop, every-end}
 use Rattle.judge.proofs.prices.is_paid.Statement.{statement}
 use Rattle.judge.proofs.prices.is_paid.Tie as tie
 

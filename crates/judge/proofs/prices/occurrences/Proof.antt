@@ -7,7 +7,7 @@ use lib.ListN.{length}
 use Rattle.model.specs.Lists.{upTo}
 use Rattle.model.specs.Transfers.{count, transferAt, exchangeOf}
 use Rattle.judge.specs.Parts.{transferOf}
-use Rattle.judge.proofs.Loops.{count-more}
+use Rattle.model.proofs.Loops.{count-more}
 use Rattle.judge.proofs.prices.occurrences.Statement.{statement}
 use Rattle.judge.proofs.prices.occurrences.Tie as tie
 

@@ -3,7 +3,7 @@ use borrow.Author.Tests.{not-true, not-false}
 use native.Mathlib.Omega.{arith}
 use Prim.Native.Nat.{_-_}
 use Rattle.model.specs.Lists.{within}
-use Rattle.judge.proofs.Tests.{within-true}
+use Rattle.model.proofs.Tests.{within-true}
 use Rattle.judge.proofs.records.is_claimable.Statement.{statement}
 use Rattle.judge.proofs.records.is_claimable.Tie as tie
 

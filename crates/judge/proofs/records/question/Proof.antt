@@ -2,7 +2,7 @@
 use borrow.Author.Needs.{needs}
 use native.Mathlib.Omega.{arith}
 use lib.Dec.{eqb}
-use Rattle.model.proofs.Tests.{both-true}
+use Rattle.model.proofs.Tests.{both-true, within-true}
 use borrow.Author.Tests.{eq-eqb, ne-eqb, not-true, not-false}
 use Prim.Native.Nat.{_-_, _≤_}
 use mathlib.Core.Path.{_≡_, sym, _∙_}
@@ -10,7 +10,6 @@ use mathlib.Core.Bool.{true, cond}
 use Rattle.model.specs.Lists.{within}
 use Rattle.judge.specs.Parts.{Parts, parts, transfers}
 use Rattle.judge.specs.Records.{firstUnmet, isClaimable, isLinked, recordTests}
-use Rattle.judge.proofs.Tests.{within-true}
 use Rattle.judge.proofs.Asking.{record-unmet}
 use Rattle.model.specs.Proof.{next, claim, ruleNumber}
 use Rattle.judge.proofs.records.question.Statement.{statement}

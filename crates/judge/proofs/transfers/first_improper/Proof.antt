@@ -8,7 +8,7 @@ use mathlib.Core.Bool.{true}
 use Rattle.model.specs.Lists.{every, upTo}
 use Rattle.model.specs.Transfers.{transferAt, exchangeOf}
 use Rattle.judge.specs.Parts.{isProperOf}
-use Rattle.judge.proofs.Loops.{every-more, failing-end, failing-stop}
+use Rattle.model.proofs.Loops.{every-more, failing-end, failing-stop}
 use Rattle.judge.proofs.transfers.first_improper.Statement.{statement}
 use Rattle.judge.proofs.transfers.first_improper.Tie as tie
 

@@ -5,7 +5,7 @@ use mathlib.Core.Path.{_≡_, sym, _∙_}
 use mathlib.Core.Bool.{false}
 use Rattle.model.specs.Lists.{any}
 use Rattle.judge.specs.Rows.{below, conditionCount, inCondition}
-use Rattle.judge.proofs.Loops.{any-more, any-stop, any-end}
+use Rattle.model.proofs.Loops.{any-more, any-stop, any-end}
 use Rattle.judge.proofs.variables.in_conditions.Statement.{statement}
 use Rattle.judge.proofs.variables.in_conditions.Tie as tie
 

@@ -6,7 +6,7 @@ use mathlib.Core.Path.{_≡_, refl, sym, _∙_}
 use mathlib.Core.Bool.{true}
 use Rattle.model.specs.Lists.{every}
 use Rattle.judge.specs.Rows.{below, variableFits}
-use Rattle.judge.proofs.Loops.{every-more, every-stop, every-end}
+use Rattle.model.proofs.Loops.{every-more, every-stop, every-end}
 use Rattle.judge.proofs.variables.variables_fit.Statement.{statement}
 use Rattle.judge.proofs.variables.variables_fit.Tie as tie
 

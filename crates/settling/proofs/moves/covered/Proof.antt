@@ -52,7 +52,7 @@ returns c =
     let at = c .before .before .before .place in
     let turn = c .before .before .before .before .before .before in
     let start = turn .before .before .before in
-    sym (covered-fails _ _ _ (start .pre) _ (turn .loop-test .taken) _ _ (need .ensures) (at .ensures .0) (c .if1 .taken))
+    sym (covered-fails _ _ _ (start .pre) _ (turn .loop-test .taken) _ _ (need .ensures) (at .ensures .0) (turn .before .loop .inv) (c .if1 .taken))
 
 add-i : tie.Need-add-i Inv-loop μ-loop
 add-i c = omega arith

@@ -26,7 +26,7 @@ element-copy-out-if1 : tie.Need-element-copy-out-if1 Inv-loop μ-loop
 element-copy-out-if1 c = omega arith
 
 returns : tie.Need-returns Inv-loop μ-loop
-returns c = sym (limited-fails _ _ _ (omega arith) (c .if1 .taken))
+returns c = sym (limited-fails _ _ _ (c .before .before .before .loop .inv) (omega arith) (c .if1 .taken))
 
 add-i : tie.Need-add-i Inv-loop μ-loop
 add-i c = omega arith

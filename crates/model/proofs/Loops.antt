@@ -9,11 +9,11 @@ use native.Mathlib.Numerals.{add-one}
 use lib.Dec.{eqb}
 use lib.ListN.{length}
 use borrow.Author.Tests.{ne-eqb, eqb-true}
 use Rattle.model.specs.Lists.{every, any, firstFailing, upTo}
 use Rattle.model.specs.Transfers.{Transfer, same, count}
 use Rattle.model.proofs.Places.{upTo-more, upTo-length}
 use Rattle.model.proofs.Counting.{count-append}
-use Rattle.judge.proofs.Tests.{and-assoc, or-assoc, and-true-right, or-false-right}
+use Rattle.model.proofs.Tests.{and-assoc, or-assoc, and-true-right, or-false-right}
 
 -- ---- tests of every place and of some place
 
