@@ -8,7 +8,7 @@ test:
 	@tests/run
 
 bench:
-	@echo "make bench: nothing to measure yet: no call runs"
+	@echo "make bench: nothing to measure yet: no call is exported"
 
 fmt:
 	@rt fmt

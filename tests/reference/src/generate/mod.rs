@@ -1,0 +1,10 @@
+//! Makes rule texts, exchanges with proofs, and whole transcripts, right ones and damaged ones.
+
+mod books;
+mod lines;
+mod swaps;
+mod transcripts;
+
+pub use books::{damaged, limits, small, valid};
+pub use swaps::{small_exchange, Settlement, Swap};
+pub use transcripts::{BookFile, Script, Transcript};

@@ -1,0 +1,127 @@
+//! Runs a `ringswap` program in a fresh folder, as the runners need it.
+
+use crate::generate::BookFile;
+use std::fs;
+use std::io::{self, Read, Write};
+use std::path::{Path, PathBuf};
+use std::process::{Child, Command, ExitStatus, Stdio};
+use std::sync::atomic::{AtomicU32, Ordering};
+use std::sync::mpsc;
+use std::thread;
+use std::time::{Duration, Instant};
+
+/// How long a program may take before it counts as hanging.
+pub const PATIENCE: Duration = Duration::from_secs(5);
+
+/// A folder with a book, taken away again at the end.
+struct Folder(PathBuf);
+
+impl Folder {
+    fn new(book: &BookFile) -> io::Result<Folder> {
+        static NUMBER: AtomicU32 = AtomicU32::new(0);
+        let number = NUMBER.fetch_add(1, Ordering::Relaxed);
+        let name = format!("ringswap-{}-{number}", std::process::id());
+        let folder = Folder(std::env::temp_dir().join(name));
+        fs::create_dir(&folder.0)?;
+        let path = folder.0.join("book.txt");
+        match book {
+            BookFile::Text(text) => fs::write(path, text)?,
+            BookFile::Folder => fs::create_dir(path)?,
+            BookFile::Missing => (),
+        }
+        Ok(folder)
+    }
+}
+
+impl Drop for Folder {
+    fn drop(&mut self) {
+        // A folder that stays behind harms nobody, and there is nobody to tell.
+        let _ = fs::remove_dir_all(&self.0);
+    }
+}
+
+/// A started program with pipes at both ends, ended when it is dropped.
+pub struct Program {
+    child: Child,
+    _folder: Folder,
+}
+
+impl Program {
+    pub fn start(path: &Path, book: &BookFile) -> io::Result<Program> {
+        let folder = Folder::new(book)?;
+        let child = Command::new(path.canonicalize()?)
+            .current_dir(&folder.0)
+            .stdin(Stdio::piped())
+            .stdout(Stdio::piped())
+            .spawn()?;
+        Ok(Program {
+            child,
+            _folder: folder,
+        })
+    }
+
+    /// The end that the program reads from; dropping it ends the program's input.
+    pub fn input(&mut self) -> impl Write + Send {
+        self.child.stdin.take().expect("the input is taken once")
+    }
+
+    pub fn output(&mut self) -> impl Read + Send {
+        self.child.stdout.take().expect("the output is taken once")
+    }
+
+    /// Waits for the end; it is an error if it does not come in time.
+    pub fn end(mut self) -> io::Result<ExitStatus> {
+        let deadline = Instant::now() + PATIENCE;
+        loop {
+            match self.child.try_wait()? {
+                Some(status) => return Ok(status),
+                None if Instant::now() > deadline => return Err(io::ErrorKind::TimedOut.into()),
+                None => thread::sleep(Duration::from_micros(100)),
+            }
+        }
+    }
+}
+
+impl Drop for Program {
+    fn drop(&mut self) {
+        // One that has ended by itself refuses to be ended; that is as well.
+        let _ = self.child.kill();
+        let _ = self.child.wait();
+    }
+}
+
+/// Runs the program to its end, with its input written in pieces, and answers its output.
+pub fn run(path: &Path, book: &BookFile, pieces: &[&[u8]]) -> io::Result<Vec<u8>> {
+    let mut program = Program::start(path, book)?;
+    let (mut input, mut output) = (program.input(), program.output());
+    thread::scope(|scope| {
+        scope.spawn(move || {
+            for piece in pieces {
+                // A program that stops at its book leaves the input unread.
+                if input.write_all(piece).is_err() {
+                    break;
+                }
+            }
+        });
+        let (sender, receiver) = mpsc::channel();
+        scope.spawn(move || {
+            let mut bytes = Vec::new();
+            let read = output.read_to_end(&mut bytes);
+            // Nobody receives any more if the time is over.
+            let _ = sender.send(read.map(|_| bytes));
+        });
+        let received = receiver.recv_timeout(PATIENCE);
+        // Ending the program, in time or not, closes its pipes and so ends both threads.
+        match received {
+            Ok(bytes) => match program.end()? {
+                // No code means that it was killed; which code goes with a refused book is open.
+                status if status.code().is_none() => Err(io::Error::other(status.to_string())),
+                _ => bytes,
+            },
+            Err(_) => {
+                drop(program);
+                Err(io::ErrorKind::TimedOut.into())
+            }
+        }
+    })
+}

@@ -1,0 +1,134 @@
+//! The parts set beside each other over generated input.
+
+use reference::book::{Book, MAX_TEXT};
+use reference::commands::{ringswap, Session};
+use reference::decider::Decider;
+use reference::engine::{Engine, HOLDINGS, MAX_SUM};
+use reference::generate::{self, Settlement, Swap, Transcript};
+use reference::random::Random;
+use reference::{ring, search, till};
+
+#[test]
+fn some_proof_settles_exactly_the_fair_and_covered() {
+    let mut counts = [0; 2];
+    for case in 0..200 {
+        let random = &mut Random::new(7, case);
+        let text = generate::small(random);
+        let (engine, _) = Engine::open(&text);
+        let decider = Decider::new(engine.book());
+        for _ in 0..4 {
+            let exchange = generate::small_exchange(engine.book(), random);
+            let fair = decider.fair(&exchange);
+            let proof = search::proof(engine.book(), &exchange);
+            assert_eq!(fair, proof.is_some(), "{}", text.escape_ascii());
+            counts[usize::from(fair)] += 1;
+            let Some(proof) = proof else { continue };
+            let mut engine = engine.clone();
+            for &[giver, kind, _] in &exchange {
+                assert!(engine.settle(&exchange.concat(), &proof).is_err());
+                assert_eq!(engine.issue(giver.into(), kind.into(), 1), Ok(()));
+            }
+            assert_eq!(engine.settle(&exchange.concat(), &proof), Ok(()));
+        }
+    }
+    assert!(counts.iter().all(|&count| count > 100), "{counts:?}");
+}
+
+#[test]
+fn till_answers_as_the_engine_does() {
+    let mut settled = 0;
+    for case in 0..2_000 {
+        let random = &mut Random::new(8, case);
+        let text = generate::valid(random);
+        let (mut engine, _) = Engine::open(&text);
+        let swap = Swap::find(engine.book(), random);
+        let settlement = match &swap {
+            Some(swap) => {
+                for &[giver, kind, _] in &swap.transfers {
+                    assert_eq!(engine.issue(giver.into(), kind.into(), 1), Ok(()));
+                }
+                let mut settlement = swap.settlement(random);
+                if random.one_in(2) {
+                    settlement.damage(engine.book(), random);
+                }
+                settlement
+            }
+            None => Settlement::noise(random),
+        };
+        let Settlement { exchange, proof } = settlement;
+        let mut holdings = *engine.holdings();
+        let answer = till::call(&text, &mut holdings, &exchange, &proof);
+        let expected = engine.settle(&exchange, &proof);
+        assert_eq!(
+            answer,
+            expected.map_or_else(|refusal| refusal.number, |()| 0)
+        );
+        assert_eq!(holdings, *engine.holdings());
+        settled += u32::from(answer == 0);
+    }
+    assert!(settled > 300, "{settled}");
+}
+
+#[test]
+fn till_asks_about_holdings_between_text_and_exchange() {
+    let text = ring::BOOK.as_bytes();
+    let call = |text: &[u8], holdings: &mut [u32]| till::call(text, holdings, &[], &[]);
+    let mut holdings = [0; HOLDINGS + 1];
+    assert_eq!(call(text, &mut holdings[..HOLDINGS]), 12);
+    assert_eq!(call(text, &mut holdings), 24);
+    assert_eq!(call(text, &mut holdings[..HOLDINGS - 1]), 24);
+    assert_eq!(call(b"C 1\n", &mut holdings), 4);
+
+    holdings[3 * 16] = 1;
+    assert_eq!(call(text, &mut holdings[..HOLDINGS]), 24);
+    holdings[3 * 16] = 0;
+    holdings[2 * 16 + 15] = MAX_SUM;
+    assert_eq!(call(text, &mut holdings[..HOLDINGS]), 12);
+    holdings[15] = 1;
+    assert_eq!(call(text, &mut holdings[..HOLDINGS]), 24);
+    holdings[15] = u32::MAX;
+    assert_eq!(call(text, &mut holdings[..HOLDINGS]), 24);
+}
+
+#[test]
+fn pieces_of_input_change_nothing() {
+    for case in 0..100 {
+        let random = &mut Random::new(9, case);
+        let Transcript { book, input } = Transcript::some(random);
+        let mut out = Vec::new();
+        if let Some(mut session) = Session::open(book.text(), &mut out) {
+            let size = random.pick(&[1, 7, 8_191, 8_192]);
+            for piece in input.chunks(size) {
+                session.feed(piece, &mut out);
+            }
+            session.finish(&mut out);
+        }
+        assert_eq!(out, ringswap(book.text(), &input));
+    }
+}
+
+#[test]
+fn generated_books_are_what_they_are_called() {
+    let mut limits = [0; 8];
+    let mut longest = 0;
+    for case in 0..4_000 {
+        let random = &mut Random::new(10, case);
+        assert!(Book::read(&generate::valid(random)).is_ok());
+        let text = generate::limits(random);
+        match Book::read(&text) {
+            Ok(_) => longest = longest.max(text.len()),
+            Err(refusal) => limits[usize::from(refusal.number)] += 1,
+        }
+    }
+    assert_eq!(longest, MAX_TEXT);
+    // Whatever is at a limit has a form, so only question 2 is never refused.
+    let never: Vec<_> = (1..8).filter(|&number| limits[number] == 0).collect();
+    assert_eq!(never, [2]);
+}
+
+#[test]
+fn book_that_does_not_open_ends_the_run() {
+    assert_eq!(ringswap(None, b"H 1 1\n"), b"bad\n");
+    assert_eq!(ringswap(Some(b"X\n"), b"H 1 1\n"), b"2 1\n");
+    assert_eq!(ringswap(Some(&[b'X'; MAX_TEXT + 1]), b"H 1 1\n"), b"1 0\n");
+}
