@@ -1,5 +1,7 @@
-// Runs the cases of document 01 that are not marked P, and prints what each answers; the file stdout beside src/ is what it must print.
+// Runs the cases of document 01 that are not marked P, and some that are, and prints what each answers; the file stdout beside src/ is what it must print.
 mod accounts;
+mod fairness;
+mod family;
 mod large;
 mod opening;
 mod ring;
@@ -27,4 +29,5 @@ fn main() {
     large::not_covered();
     large::refused();
     large::one_record_less();
+    family::agrees();
 }
