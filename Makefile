@@ -8,7 +8,7 @@ test:
 	@tests/run
 
 bench:
-	@echo "make bench: nothing to measure yet: no call is exported"
+	@echo "make bench: nothing to measure yet: there is no benchmark"
 
 fmt:
 	@rt fmt

@@ -27,6 +27,7 @@ use Rattle.engine.specs.Demand3.{Run, opened, called, NotRefused, Agree,
 use Rattle.engine.specs.declared.Engine.{Engine}
 use Rattle.engine.specs.declared.Reply.{Reply}
 use Rattle.engine.specs.declared.Reply.the-variants.{Refused}
+use Rattle.engine.proofs.AccountLaws.{refuses}
 
 module _ (text : List ℕ) (shaped : Shaped (opening.bookOf text)) where
   abbrev b : Book
@@ -95,11 +96,6 @@ module _ (text : List ℕ) (shaped : Shaped (opening.bookOf text)) where
       let m = histories b shaped h .moved x p (got-done h e x p r e′ g a u) in
       rw (g .state, stepped g a .next .state) m
 
-  -- a refusal that the questions give is one that the contract allows, with the engine as it was
-  allowed : (e : Engine) (call : Call) (n i : ℕ) → replyTo (bookOf e) (stateOf e) call ≡ model.refused n i → Answers e call (Refused n i) e
-  unfolding after
-  allowed e call n i q = record { answers = sym q; state = rw q; book = refl; refused = λ k. refl }
-
   module _ (h : History) (e : Engine) (g : Reached h e) (x : List ℕ) (size : T (isSized transferSize exchangeLimit x)) (among : Among b (exchangeOf x)) where
     here : (p : List ℕ) → replyTo (bookOf e) (stateOf e) (settle x p) ≡ replyAfter b h (settle x p)
     unfolding replyAfter
@@ -115,7 +111,7 @@ module _ (text : List ℕ) (shaped : Shaped (opening.bookOf text)) where
             go (model.ok t) k =
                 let s = histories b shaped h .settles x size among .0 (p, bytes, k ∙ ap model.ok (only-done b (stateAfter b h) x p t (reply-now b h (settle x p) ∙ k))) in
                 (s .0, rw (g .state) (s .1))
-            go (model.refused n i) k = absurd (q (Refused n i) e (allowed e (settle x p) n i (here p ∙ k)))
+            go (model.refused n i) k = absurd (q (Refused n i) e (refuses e (settle x p) n i (here p ∙ k)))
 
         back : Fair b (exchangeOf x) × Covered (stateOf e) (exchangeOf x) → SettlesNext e x
         back f =

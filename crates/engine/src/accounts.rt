@@ -10,9 +10,13 @@ use crate::Called;
 use crate::Engine;
 use crate::Reply;
 
-const CARDS: usize = 32;
+const CARD_LIMIT: u32 = 32;
 
-const KINDS: usize = 16;
+const KIND_COUNT: u32 = 16;
+
+const CARDS: usize = CARD_LIMIT as usize;
+
+const KINDS: usize = KIND_COUNT as usize;
 
 const SUM_LIMIT: u64 = 1_000_000_000;
 
@@ -23,7 +27,7 @@ fn account(cards: u8, card: u32, kind: u32) -> u8
     if card < 1 {
         return answers::CARD_UNDECLARED;
     }
-    if 32 < card {
+    if CARD_LIMIT < card {
         return answers::CARD_UNDECLARED;
     }
     if (cards as u32) < card {
@@ -32,7 +36,7 @@ fn account(cards: u8, card: u32, kind: u32) -> u8
     if kind < 1 {
         return answers::KIND_UNKNOWN;
     }
-    if 16 < kind {
+    if KIND_COUNT < kind {
         return answers::KIND_UNKNOWN;
     }
     0

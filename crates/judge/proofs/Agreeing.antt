@@ -10,7 +10,7 @@ use lib.ListN.{length, getD, take}
 use lib.Seq.{getD-take}
 use borrow.Author.Tests.{not-true}
 use Rattle.model.specs.Lists.{within, every}
-use Rattle.model.specs.Questions.{Question, _⇒_}
+use Rattle.model.specs.Questions.{Question, _⇒_, firstUnmet}
 use Rattle.model.specs.Grammar.{Rule}
 use Rattle.model.specs.Book.{Book, declared}
 use Rattle.model.specs.Transfers.{Transfer, Exchange, transferAt, exchangeOf, noTransfer}
@@ -22,7 +22,7 @@ use Rattle.model.proofs.Soundness.{unclaimed, unclaimed-set, all-claimed}
 use Rattle.rulebook.specs.View.{ruleView, rowAt}
 use Rattle.judge.specs.Parts.{Parts, Limited, bookWith, transfers}
 use Rattle.judge.specs.Rows.{below, ownerOf, headOf, cardsFit}
-use Rattle.judge.specs.Records.{firstUnmet, isClaimable, isLinked, ruleTests, recordTests}
+use Rattle.judge.specs.Records.{isClaimable, isLinked, ruleTests, recordTests}
 use Rattle.judge.proofs.Letters.{fits≡}
 use Rattle.judge.proofs.Issuers.{payable≡, cards-length, rules-length, rule-at, holds≡}
 

@@ -6,7 +6,7 @@ use Prim.Native.Nat.{ℕ, _%_, _≤_, min}
 use native.Mathlib.Omega.{arith}
 use lib.Dec.{eqb, leb}
 use lib.ListN.{length}
-use borrow.Author.Tests.{leb-true, eqb-true}
+use borrow.Author.Tests.{leb-true}
 use Rattle.model.specs.Lists.{every, firstFailing}
 use Rattle.model.specs.Questions.{Reply, refused}
 use Rattle.model.specs.Book.{Book}
@@ -27,7 +27,7 @@ pub recorded : (p : List ℕ) → isSized 12 3060 p ≡ true → Recorded p
 recorded p h =
     let w = both-true (leb 12 (length p) && leb (length p) 3060) (eqb (length p % 12) 0) h in
     let v = both-true (leb 12 (length p)) (leb (length p) 3060) (w .0) in
-    record { some = leb-true 12 (length p) (v .0); few = leb-true (length p) 3060 (v .1); whole = eqb-true (length p % 12) 0 (w .1) }
+    record { some = leb-true 12 (length p) (v .0); few = leb-true (length p) 3060 (v .1) }
 
 -- the place of the first improper transfer, or 0
 abbrev pub bad : ℕ → List ℕ → ℕ

@@ -10,7 +10,7 @@ use lib.ListN.{length, getD, set, take, replicate, length-set, length-replicate,
 use lib.Seq.{take-set-lt}
 use borrow.Author.Tests.{eq-eqb, ne-eqb}
 use Rattle.model.specs.Lists.{within}
-use Rattle.model.specs.Questions.{Answer, ok, refused, done, Reply, _⇒_, inOrder, andThen}
+use Rattle.model.specs.Questions.{Answer, ok, refused, done, Reply, _⇒_, inOrder, andThen, firstUnmet}
 use Rattle.model.specs.Grammar.{Rule}
 use Rattle.model.specs.Transfers.{Exchange, contained, transferAt, exchangeOf}
 use Rattle.model.specs.Fairness.{pricesOf}
@@ -21,10 +21,10 @@ use Rattle.model.proofs.Soundness.{unclaimed, unclaimed-set, unclaimed-first}
 use Rattle.rulebook.specs.View.{rowAt}
 use Rattle.judge.specs.Parts.{Parts, Limited, bookWith, transfers}
 use Rattle.judge.specs.Rows.{priceCount, priceAt, pricesAt}
-use Rattle.judge.specs.Records.{firstUnmet, isClaimable, isLinked, ruleTests, recordTests}
+use Rattle.judge.specs.Records.{isClaimable, isLinked, ruleTests, recordTests}
 use Rattle.judge.specs.Counts.{Room, Asks, isPaid}
 use Rattle.judge.proofs.Paying.{noCounts, asks-none, asks-more, asks-swap, counts-room, paid≡}
-use Rattle.judge.proofs.Asking.{unmet-append, first-refuses}
+use Rattle.model.proofs.Questions.{unmet-append, first-refuses}
 use Rattle.judge.proofs.Issuers.{prices≡, rule-at}
 use Rattle.judge.proofs.Agreeing.{free, agrees}
 

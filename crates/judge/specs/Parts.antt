@@ -2,7 +2,7 @@
 use mathlib.Core.Path.{_≡_}
 use mathlib.Core.Bool.{Bool, not, _&&_}
 use mathlib.Core.List.{List}
-use Prim.Native.Nat.{ℕ, _/_, _%_, _≤_}
+use Prim.Native.Nat.{ℕ, _/_, _≤_}
 use lib.Dec.{eqb}
 use lib.ListN.{length}
 use Rattle.model.specs.Limits.{cardLimit, ruleLimit, transferSize, exchangeLimit, recordSize, proofLimit}
@@ -62,7 +62,6 @@ isProperOf n t = (within (t .giver) n && within (t .receiver) n) && (not (eqb (t
 pub record Recorded (p : List ℕ) : Type 0 where
   pub some : recordSize ≤ length p
   pub few : length p ≤ proofLimit
-  pub whole : length p % recordSize ≡ 0
 
 -- what following the chain answers: questions 15 to 21
 abbrev pub Follows : Parts → List ℕ → List ℕ → Answer → Type 0

@@ -13,11 +13,6 @@ use Rattle.rulebook.specs.View.{rowAt}
 use Rattle.judge.specs.Parts.{Parts, transfers}
 use Rattle.judge.specs.Rows.{ownerOf, cardsFit, allPayable, allHold}
 
--- the number of the first question that is not met; 0 where each is
-abbrev pub firstUnmet : List Question → ℕ
-firstUnmet [] = 0
-firstUnmet (q ∷ qs) = cond (q .met) (firstUnmet qs) (q .number)
-
 -- question 15 of transfer number k among n
 abbrev pub isClaimable : List Bool → ℕ → ℕ → Bool
 isClaimable marks n k = within k n && not (getD marks (k - 1) false)

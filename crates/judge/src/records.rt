@@ -10,8 +10,9 @@ use crate::variables::cards_fit;
 ghost use mathlib.Core.Path.{_≡_};
 ghost use Prim.Native.Nat.{_≤_};
 ghost use Rattle.model.specs.Limits.{cardLimit};
+ghost use Rattle.model.specs.Questions.{firstUnmet};
 ghost use Rattle.judge.specs.Parts.{IsRow, IsRecord, Short, parts, Limited, transferOf};
-ghost use Rattle.judge.specs.Records.{firstUnmet, isClaimable, isLinked, ruleTests, recordTests};
+ghost use Rattle.judge.specs.Records.{isClaimable, isLinked, ruleTests, recordTests};
 
 // Question 15: the transfer is one of n, and not claimed yet.
 fn is_claimable(marks: &[bool; 32], n: usize, claim: u8) -> bool

@@ -17,7 +17,7 @@ use Rattle.model.specs.Proof.{recordAt, chain, judge}
 use Rattle.model.specs.Calls.{judging, replyTo}
 use Rattle.model.specs.History.{stateBy, notRefused, stateAfter, replyAfter}
 use Rattle.model.specs.Decision.{backedBy, isFair}
-use Rattle.model.specs.Swaps.{bookText, digits, Row, passes, fails, fair, unfair, judged, replied, opens, opensNot, Claim, table, EveryRow, EverySwap}
+use Rattle.model.specs.Swaps.{bytesOf, bookText, digits, Row, passes, fails, fair, unfair, judged, replied, opens, opensNot, Claim, table, EveryRow, EverySwap}
 use Rattle.model.proofs.Tests.{both, T-eq, not-T-eq}
 use Rattle.model.proofs.Completeness.{Lettered}
 use Rattle.model.proofs.Deciding.{decides}
@@ -65,7 +65,7 @@ test b (passes ds) = luhn (digits ds)
 test b (fails ds) = not (luhn (digits ds))
 test b (fair X) = every (isProper b) X && isFair b X
 test b (unfair X) = every (isProper b) X && not (isFair b X)
-test b (judged X p n i) = refusedBy (judge b X p) n i
+test b (judged X p n i) = refusedBy (judging b (bytesOf X) p) n i
 test b (replied h call r) = eqReply (replyAfter b h call) r
 test b (opens t) = isOk (opening t)
 test b (opensNot t n i) = refusedBy (opening t) n i
@@ -75,7 +75,7 @@ right b l (passes ds) h = T-eq (luhn (digits ds)) h
 right b l (fails ds) h = not-T-eq (luhn (digits ds)) h
 right b l (fair X) h = let p = both (every (isProper b) X) _ h in decides b l X (p .0) .0 (p .1)
 right b l (unfair X) h = let p = both (every (isProper b) X) _ h in λ f. T-not (isFair b X) (p .1) (decides b l X (p .0) .1 f)
-right b l (judged X p n i) h = refusedBy→ (judge b X p) n i h
+right b l (judged X p n i) h = refusedBy→ (judging b (bytesOf X) p) n i h
 right b l (replied g call r) h = eqReply→ (replyAfter b g call) r h
 right b l (opens t) h = isOk→ (opening t) h
 right b l (opensNot t n i) h = refusedBy→ (opening t) n i h

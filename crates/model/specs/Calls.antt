@@ -42,14 +42,16 @@ judging b e p =
     (inOrder ((14 ⇒ isSized recordSize proofLimit p) ∷ []) 0
     (judge b (exchangeOf e) p)))
 
+-- questions 22 and 23
+abbrev pub lastQuestions : Book → State → Exchange → Reply
+lastQuestions b s X = inOrder ((22 ⇒ isCovered s X) ∷ (23 ⇒ endsLimited b s X) ∷ []) 0 (ok done)
+
 unfoldable pub replyTo : Book → State → Call → Reply
 unfolding judging
 replyTo b s (issue c k n) = inOrder (accountQuestions b c k ++ ((10 ⇒ leb (total s k + n) sumLimit) ∷ [])) 0 (ok done)
 replyTo b s (redeem c k n) = inOrder (accountQuestions b c k ++ ((11 ⇒ leb n (s .held c k)) ∷ [])) 0 (ok done)
 replyTo b s (query c k) = inOrder (accountQuestions b c k) 0 (ok (holding (s .held c k)))
-replyTo b s (settle e p) =
-    andThen (judging b e p)
-    (λ t. inOrder ((22 ⇒ isCovered s (exchangeOf e)) ∷ (23 ⇒ endsLimited b s (exchangeOf e)) ∷ []) 0 (ok done))
+replyTo b s (settle e p) = andThen (judging b e p) (λ t. lastQuestions b s (exchangeOf e))
 
 -- ---- what a call that is not refused issues, redeems, brings and takes, at each card and kind
 
@@ -90,7 +92,7 @@ isRefused (refused n i) = true
 abbrev pub changed : State → Call → State
 changed s call = record { held = λ d j. (s .held d j + (issues call d j + brings call d j)) - (redeems call d j + takes call d j) }
 
--- "A refused call changes no holding"
+-- a refused call changes no holding
 unfoldable pub after : Book → State → Call → State
 unfolding replyTo
 after b s call = cond (isRefused (replyTo b s call)) s (changed s call)

@@ -32,7 +32,7 @@ priceOf r ρ p = record { giver = ρ (p .from); kind = p .kind; receiver = cardO
 abbrev pub pricesOf : Rule → Assignment → Exchange
 pricesOf r ρ = map (priceOf r ρ) (r .prices)
 
--- "a variable of the rule": it stands in the head, a price or a condition
+-- "each variable of the rule": it stands in the head, a price or a condition
 abbrev pub nameVariables : Name → List ℕ
 nameVariables (var v) = v ∷ []
 nameVariables star = []

@@ -25,6 +25,11 @@ pub record Question : Type 0 where
 abbrev pub _⇒_ : ℕ → Bool → Question
 n ⇒ x = record { number = n; met = x }
 
+-- the number of the first question that is not met; 0 where each is
+abbrev pub firstUnmet : List Question → ℕ
+firstUnmet [] = 0
+firstUnmet (q ∷ qs) = cond (q .met) (firstUnmet qs) (q .number)
+
 module _ {A : Type 0} where
   -- the questions in order, all with place i; `rest` is the answer where each is met
   abbrev pub inOrder : List Question → ℕ → Answer A → Answer A

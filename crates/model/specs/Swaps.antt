@@ -11,8 +11,7 @@ use Rattle.model.specs.Book.{Book}
 use Rattle.model.specs.Opening.{opening, bookOf}
 use Rattle.model.specs.Transfers.{Transfer, Exchange}
 use Rattle.model.specs.Fairness.{Fair}
-use Rattle.model.specs.Proof.{judge}
-use Rattle.model.specs.Calls.{Call, issue, settle}
+use Rattle.model.specs.Calls.{Call, issue, settle, judging}
 use Rattle.model.specs.History.{History, start, _▸_, replyAfter}
 
 -- ---- the book
@@ -82,7 +81,7 @@ Claim b (passes ds) = luhn (digits ds) ≡ true
 Claim b (fails ds) = luhn (digits ds) ≡ false
 Claim b (fair X) = Fair b X
 Claim b (unfair X) = Fair b X → ⊥
-Claim b (judged X p n i) = judge b X p ≡ refused n i
+Claim b (judged X p n i) = judging b (bytesOf X) p ≡ refused n i
 Claim b (replied h call r) = replyAfter b h call ≡ r
 Claim b (opens t) = (c : Book) × (opening t ≡ ok c)
 Claim b (opensNot t n i) = opening t ≡ refused n i

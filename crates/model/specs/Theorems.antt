@@ -98,8 +98,8 @@ pub record Conservation : Type 0 where
 -- ---- 6. Histories
 
 -- "has a proof that settles it next"
-abbrev pub SettlesNext : Book → History → List ℕ → Type 0
-SettlesNext b h e = (p : List ℕ) × T (every isByte p) × (replyAfter b h (settle e p) ≡ ok done)
+abbrev pub HasSettlingProof : Book → History → List ℕ → Type 0
+HasSettlingProof b h e = (p : List ℕ) × T (every isByte p) × (replyAfter b h (settle e p) ≡ ok done)
 
 pub record Histories (b : Book) (h : History) : Type 0 where
   -- nothing is subtracted below zero
@@ -112,7 +112,7 @@ pub record Histories (b : Book) (h : History) : Type 0 where
   pub sums : (k : ℕ) → total (stateAfter b h) k + sumTo (λ c. redeemed (notRefused b h) c k) cardLimit ≡ sumTo (λ c. issued (notRefused b h) c k) cardLimit
   -- an exchange of 1 to 32 transfers among the cards has settling bytes exactly if it is fair and covered
   pub settles : (e : List ℕ) → T (isSized transferSize exchangeLimit e) → Among b (exchangeOf e)
-      → SettlesNext b h e ↔ (Fair b (exchangeOf e) × Covered (stateAfter b h) (exchangeOf e))
+      → HasSettlingProof b h e ↔ (Fair b (exchangeOf e) × Covered (stateAfter b h) (exchangeOf e))
 
 -- for every text, refused ones too, and every list of calls
 abbrev pub EveryHistory : Type 0

@@ -12,8 +12,8 @@ use lib.Dec.{T, eqb, leb, ltb}
 use lib.ListN.{length, getD, length-set}
 use lib.Seq.{length-paste}
 use borrow.Author.Tests.{eq-eqb, ne-eqb, eqb-true, ltb-true, leb-true}
-use Rattle.model.specs.Lists.{every, upTo}
-use Rattle.model.specs.Questions.{Answer, ok, refused, Question, _⇒_, inOrder}
+use Rattle.model.specs.Lists.{upTo}
+use Rattle.model.specs.Questions.{ok, refused, _⇒_, inOrder, firstUnmet}
 use Rattle.model.specs.CardNumbers.{luhn}
 use Rattle.model.specs.Grammar.{Rule, Line, card, group, rule}
 use Rattle.model.specs.Reader.{groupOf, numberAt, isCardLine, cardDigits, isGroupLine, isRuleLine, ruleRead, someIf, readLine}
@@ -21,9 +21,10 @@ use Rattle.model.specs.Book.{Book}
 use Rattle.model.specs.Opening.{isCardNumber, lineQuestions, withLine, addLine, openLine}
 use Rattle.model.proofs.Tests.{both-true, zero-or-more}
 use Rattle.model.proofs.Places.{upTo-length}
+use Rattle.model.proofs.Questions.{numbered, first-refuses}
 use Rattle.rulebook.specs.View.{cardView, rowAt, ruleView, bookFrom, bookOf}
 use Rattle.rulebook.specs.Rows.{rowOf}
-use Rattle.rulebook.specs.Lines.{unmet, cardQuestions, CardTaken, GroupTaken, RuleTaken, tables, Sized, answered, Taken}
+use Rattle.rulebook.specs.Lines.{cardQuestions, CardTaken, GroupTaken, RuleTaken, tables, Sized, answered, Taken}
 use Rattle.rulebook.specs.declared.Tables.{Tables}
 use Rattle.rulebook.proofs.Rows.{row-says, row-length}
 use Rattle.rulebook.proofs.Grown.{card-grown, group-grown, rule-grown}
@@ -31,18 +32,7 @@ use Rattle.rulebook.proofs.Forms.{grouped, headed}
 
 -- ---- the line's answer, by the first question that is not met
 
-answer-is : (qs : List Question) → T (every (λ q. leb 1 (q .number)) qs) → (i : ℕ) (rest : Answer Book) → inOrder qs i rest ≡ cond (eqb (unmet qs) 0) rest (refused (unmet qs) i)
-answer-is [] p i rest = refl
-answer-is (q ∷ qs) p i rest = go (q .met) (leb 1 (q .number)) refl p (answer-is qs)
-  where
-    go : (x y : Bool) → leb 1 (q .number) ≡ y → T (y && every (λ q. leb 1 (q .number)) qs)
-        → (T (every (λ q. leb 1 (q .number)) qs) → (i : ℕ) (rest : Answer Book) → inOrder qs i rest ≡ cond (eqb (unmet qs) 0) rest (refused (unmet qs) i))
-        → cond x (inOrder qs i rest) (refused (q .number) i) ≡ cond (eqb (cond x (unmet qs) (q .number)) 0) rest (refused (cond x (unmet qs) (q .number)) i)
-    go true true e p h = h p i rest
-    go false true e p h = rw (ne-eqb (q .number) 0 (λ z. let l = leb-true 1 (q .number) e in omega arith))
-    go x false e p h = absurd p
-
-asked : (b : Book) (l : Line) → T (every (λ q. leb 1 (q .number)) (lineQuestions b l))
+asked : (b : Book) (l : Line) → T (numbered (lineQuestions b l))
 asked b (card ds) = tt
 asked b (group g m) = tt
 asked b (rule r) = tt
@@ -57,17 +47,17 @@ module _ (w : List ℕ) (t t′ : Tables) (l : Line) (x : Bool) (is : readLine w
       go true = refl
       go false = refl
 
-  line-answer : (r : ℕ) → r ≡ unmet ((2 ⇒ x) ∷ lineQuestions (bookOf t) l) → (r ≡ 0 → bookOf t′ ≡ withLine (bookOf t) l)
+  line-answer : (r : ℕ) → r ≡ firstUnmet ((2 ⇒ x) ∷ lineQuestions (bookOf t) l) → (r ≡ 0 → bookOf t′ ≡ withLine (bookOf t) l)
       → (i : ℕ) → answered r i (bookOf t′) ≡ openLine i (bookOf t) w
   line-answer r e h i =
-      go (eqb r 0) refl ∙ sym (rw (sym e) at (answer-is ((2 ⇒ x) ∷ lineQuestions (bookOf t) l) (asked (bookOf t) l) i (ok (withLine (bookOf t) l)))) ∙ sym (opened i)
+      go (eqb r 0) refl ∙ sym (rw (sym e) at (first-refuses ((2 ⇒ x) ∷ lineQuestions (bookOf t) l) i (ok (withLine (bookOf t) l)) (asked (bookOf t) l))) ∙ sym (opened i)
     where
       go : (y : Bool) → eqb r 0 ≡ y → cond y (ok (bookOf t′)) (refused r i) ≡ cond y (ok (withLine (bookOf t) l)) (refused r i)
       go true p = ap ok (h (eqb-true r 0 p))
       go false p = refl
 
   -- what a taken line leaves is the book with it, and a refused one leaves what was there
-  line-taken : (r : ℕ) → r ≡ unmet ((2 ⇒ x) ∷ lineQuestions (bookOf t) l) → Sized t
+  line-taken : (r : ℕ) → r ≡ firstUnmet ((2 ⇒ x) ∷ lineQuestions (bookOf t) l) → Sized t
       → (r ≡ 0 → (bookOf t′ ≡ withLine (bookOf t) l) × Sized t′) → ((r ≡ 0 → ⊥) → t′ ≡ t) → Taken w t t′ r
   line-taken r e sized new old = record {
     answer = line-answer r e (λ z. new z .0);
@@ -115,7 +105,7 @@ unfolding ruleRead
 owner-is w = refl
 
 -- what questions 3 and 4 say of a card that is taken
-card-room : (cards : List (List ℕ)) (w : List ℕ) → unmet (cardQuestions cards w) ≡ 0 → (length cards < 32) × (12 ≤ length (cardDigits w)) × (length (cardDigits w) ≤ 19)
+card-room : (cards : List (List ℕ)) (w : List ℕ) → firstUnmet (cardQuestions cards w) ≡ 0 → (length cards < 32) × (12 ≤ length (cardDigits w)) × (length (cardDigits w) ≤ 19)
 card-room cards w e =
     let ds = cardDigits w in
     let a = met 2 (isCardLine w) _ (omega arith) e in

@@ -10,7 +10,7 @@ use lib.ListN.{length, getD, set}
 use lib.Seq.{paste}
 use Rattle.model.specs.Limits.{cardLimit, ruleLimit, groupCount, mostDigits}
 use Rattle.model.specs.Lists.{within, upTo, any, eqList}
-use Rattle.model.specs.Questions.{Answer, ok, refused, Question, _⇒_}
+use Rattle.model.specs.Questions.{Answer, ok, refused, Question, _⇒_, firstUnmet}
 use Rattle.model.specs.Reader.{groupOf, numberAt, isCardLine, cardDigits, isGroupLine, isRuleLine}
 use Rattle.model.specs.Book.{Book}
 use Rattle.model.specs.Opening.{isCardNumber, openLine}
@@ -28,11 +28,6 @@ untilLF [] = 0
 untilLF (x ∷ xs) = cond (eqb x (code "\n")) 0 (suc (untilLF xs))
 
 -- ---- questions 2 to 7, by the line's form
-
--- the number of the first question that is not met; 0 where each is
-abbrev pub unmet : List Question → ℕ
-unmet [] = 0
-unmet (q ∷ qs) = cond (q .met) (unmet qs) (q .number)
 
 abbrev pub cardQuestions : List (List ℕ) → List ℕ → List Question
 cardQuestions cards w =
@@ -55,19 +50,19 @@ ifTaken refusal new old = cond (eqb refusal 0) new old
 
 -- a card line
 pub record CardTaken (w : List ℕ) (cards : ℕ) (digits lengths : List ℕ) (refusal cards′ : ℕ) (digits′ lengths′ : List ℕ) : Type 0 where
-  pub refusal-is : refusal ≡ unmet (cardQuestions (upTo (cardView digits lengths) cards) w)
+  pub refusal-is : refusal ≡ firstUnmet (cardQuestions (upTo (cardView digits lengths) cards) w)
   pub cards-is : cards′ ≡ ifTaken refusal (cards + 1) cards
   pub digits-is : digits′ ≡ ifTaken refusal (paste digits (cards * mostDigits) (cardDigits w) (length (cardDigits w))) digits
   pub lengths-is : lengths′ ≡ ifTaken refusal (set lengths cards (length (cardDigits w))) lengths
 
 -- a group line
 pub record GroupTaken (w : List ℕ) (cards : ℕ) (groups : List ℕ) (refusal : ℕ) (groups′ : List ℕ) : Type 0 where
-  pub refusal-is : refusal ≡ unmet (groupQuestions cards w)
+  pub refusal-is : refusal ≡ firstUnmet (groupQuestions cards w)
   pub groups-is : groups′ ≡ ifTaken refusal (set groups ((numberAt w 4 - 1) * groupCount + (groupOf (getD w 2 0) - 1)) 1) groups
 
 -- a rule line
 pub record RuleTaken (w : List ℕ) (cards rules : ℕ) (rows : List ℕ) (refusal rules′ : ℕ) (rows′ : List ℕ) : Type 0 where
-  pub refusal-is : refusal ≡ unmet (ruleQuestions cards rules w)
+  pub refusal-is : refusal ≡ firstUnmet (ruleQuestions cards rules w)
   pub rules-is : rules′ ≡ ifTaken refusal (rules + 1) rules
   pub rows-is : rows′ ≡ ifTaken refusal (paste rows (rules * rowSize) (rowOf w) rowSize) rows
 

@@ -1,7 +1,7 @@
 // A rule text, read into flat tables or refused with its number and line.
 //
-// `read` keeps the tables in locals and lends them to the functions below it; no line copies one. Each of those answers 0,
-// or the number of the first question that the line does not meet, and then leaves the tables as they were.
+// `read` keeps the tables in locals and lends them to the functions below it; no line copies one. `take_line` and each `take`
+// below it answer 0, or the number of the first question that the line does not meet, and then leave the tables as they were.
 mod cards;
 mod groups;
 mod letters;

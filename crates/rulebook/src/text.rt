@@ -15,7 +15,7 @@ ghost use Rattle.rulebook.specs.Reads.{noTables};
 ghost use Rattle.rulebook.specs.Lines.{untilLF, tables, Sized, Taken};
 
 // The place of the first LF from a place on, or the text's length.
-pub(crate) fn line_end(text: &[u8], at: usize) -> usize
+fn line_end(text: &[u8], at: usize) -> usize
     requires { ⌜ at ≤ length (now text) ⌝ }
     ensures { λ r. ⌜ (r ≡ at + untilLF (drop at (now (text .entry)))) × (r ≤ length (now (text .entry))) ⌝ }
 {
@@ -30,7 +30,7 @@ pub(crate) fn line_end(text: &[u8], at: usize) -> usize
 }
 
 // One line, without its LF: the first letter decides its form.
-pub(crate) fn take_line(
+fn take_line(
     line: &[u8],
     cards: &mut u8,
     digits: &mut [u8; 608],

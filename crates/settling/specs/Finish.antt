@@ -1,15 +1,14 @@
 -- What is left of a settlement once questions 12 to 21 are met: questions 22 and 23, and the move. These are private contracts:
 -- nothing here has to be believed.
 use mathlib.Core.Path.{_≡_}
-use mathlib.Core.List.{List, [], _∷_}
+use mathlib.Core.List.{List}
 use Prim.Native.Nat.{ℕ, _≤_, _<_, min}
 use lib.ListN.{length}
 use Rattle.model.specs.Limits.{cardLimit}
-use Rattle.model.specs.Questions.{Reply, ok, done, _⇒_, inOrder}
+use Rattle.model.specs.Questions.{done}
 use Rattle.model.specs.Book.{Book}
 use Rattle.model.specs.Transfers.{transferAt, exchangeOf}
-use Rattle.model.specs.Holdings.{State, isCovered}
-use Rattle.model.specs.Calls.{endsLimited}
+use Rattle.model.specs.Calls.{lastQuestions}
 use Rattle.answers.specs.View.{answerOf}
 use Rattle.answers.specs.declared.Answer.{Answer}
 use Rattle.settling.specs.View.{stateFrom}
@@ -21,10 +20,6 @@ pub record Judged (cards : ℕ) (e : List ℕ) (n : ℕ) : Type 0 where
   pub proper : Proper e n
   pub declared : (i : ℕ) → i < n → transferAt e i .receiver ≤ min cards cardLimit
 
--- questions 22 and 23 of an exchange under the book b
-abbrev pub lastQuestions : Book → State → List ℕ → Reply
-lastQuestions b s e = inOrder ((22 ⇒ isCovered s (exchangeOf e)) ∷ (23 ⇒ endsLimited b s (exchangeOf e)) ∷ []) 0 (ok done)
-
 pub record Finished (cards : ℕ) (h e : List ℕ) (answer : Answer) (h′ : List ℕ) : Type 0 where
-  pub answers : (b : Book) → length (b .cards) ≡ min cards cardLimit → answerOf done answer ≡ lastQuestions b (stateFrom h) e
+  pub answers : (b : Book) → length (b .cards) ≡ min cards cardLimit → answerOf done answer ≡ lastQuestions b (stateFrom h) (exchangeOf e)
   pub leaves : Leaves answer h e h′

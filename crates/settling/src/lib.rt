@@ -9,6 +9,8 @@ mod moves;
 
 use answers::Answer;
 
+const CARD_LIMIT: u8 = 32;
+
 // The answer, and the holdings afterwards.
 pub struct Settled {
     pub answer: Answer,
@@ -19,10 +21,10 @@ pub struct Settled {
 fn clamp(cards: u8) -> usize
     ensures { λ r. ⌜ (r ≡ min cards 32) × (r ≤ 32) ⌝ }
 {
-    if cards <= 32 {
+    if cards <= CARD_LIMIT {
         return cards as usize;
     }
-    32
+    CARD_LIMIT as usize
 }
 
 fn refuse(number: u8, holdings: [u32; 512]) -> Settled
@@ -45,6 +47,7 @@ fn finish(cards: u8, holdings: [u32; 512], exchange: &[u8], n: usize) -> Settled
     let count = clamp(cards);
     let mut next = holdings;
     moves::take(&mut next, exchange, n);
+    // Before the receipts too, so that none overflows: a holding past the limit without them is past it with them.
     if !moves::limited(&next, count) {
         return refuse(answers::HOLDING_EXCEEDED, holdings);
     }
@@ -77,6 +80,6 @@ pub fn settle<'a>(
             answer: Answer::Refused(number, place),
             holdings,
         },
-        Answer::Done => finish(cards, holdings, exchange, exchange.len() / 3),
+        Answer::Done => finish(cards, holdings, exchange, exchange.len() / moves::TRANSFER),
     }
 }

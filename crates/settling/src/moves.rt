@@ -11,7 +11,7 @@ ghost use Rattle.settling.specs.Moves.{Proper, Coverable, Taken, Brought
 
 const KINDS: usize = 16;
 
-const TRANSFER: usize = 3;
+pub(crate) const TRANSFER: usize = 3;
 
 const SUM_LIMIT: u32 = 1_000_000_000;
 
@@ -54,7 +54,7 @@ fn gifts(exchange: &[u8], n: usize, card: u8, kind: u8) -> u32
 }
 
 // Question 22: does every giver hold enough of each kind?
-pub fn covered(holdings: &[u32; 512], exchange: &[u8], n: usize) -> bool
+pub(crate) fn covered(holdings: &[u32; 512], exchange: &[u8], n: usize) -> bool
     requires { ⌜ Proper (now exchange) n ⌝ }
     ensures { λ r. ⌜ r ≡ isCovered (stateFrom (now (holdings .entry))) (exchangeOf (now (exchange .entry))) ⌝ }
 {
@@ -69,7 +69,7 @@ pub fn covered(holdings: &[u32; 512], exchange: &[u8], n: usize) -> bool
     true
 }
 
-pub fn take(holdings: &mut [u32; 512], exchange: &[u8], n: usize)
+pub(crate) fn take(holdings: &mut [u32; 512], exchange: &[u8], n: usize)
     requires { ⌜ Coverable (now holdings) (now exchange) n ⌝ }
     ensures { λ r. ⌜ Taken (now (holdings .entry)) (now (exchange .entry)) (now (holdings .exit)) ⌝ }
 {
@@ -79,7 +79,7 @@ pub fn take(holdings: &mut [u32; 512], exchange: &[u8], n: usize)
     }
 }
 
-pub fn give(holdings: &mut [u32; 512], exchange: &[u8], n: usize)
+pub(crate) fn give(holdings: &mut [u32; 512], exchange: &[u8], n: usize)
     requires { ⌜ Roomy (now holdings) (now exchange) n ⌝ }
     ensures { λ r. ⌜ Brought (now (holdings .entry)) (now (exchange .entry)) (now (holdings .exit)) ⌝ }
 {
@@ -90,7 +90,7 @@ pub fn give(holdings: &mut [u32; 512], exchange: &[u8], n: usize)
 }
 
 // Whether each holding of the first cards is at most the limit.
-pub fn limited(holdings: &[u32; 512], cards: usize) -> bool
+pub(crate) fn limited(holdings: &[u32; 512], cards: usize) -> bool
     requires { ⌜ cards ≤ 32 ⌝ }
     ensures { λ r. ⌜ r ≡ allLimited (now (holdings .entry)) cards ⌝ }
 {

@@ -9,7 +9,8 @@ use mathlib.Core.Path.{_≡_, sym, _∙_}
 use mathlib.Core.Bool.{true, cond}
 use Rattle.model.specs.Lists.{within}
 use Rattle.judge.specs.Parts.{Parts, parts, transfers}
-use Rattle.judge.specs.Records.{firstUnmet, isClaimable, isLinked, recordTests}
+use Rattle.model.specs.Questions.{firstUnmet}
+use Rattle.judge.specs.Records.{isClaimable, isLinked, recordTests}
 use Rattle.judge.proofs.Asking.{record-unmet}
 use Rattle.model.specs.Proof.{next, claim, ruleNumber}
 use Rattle.judge.proofs.records.question.Statement.{statement}
