@@ -1,4 +1,4 @@
-//! The ring of three, and the swaps that tempt, over the plain engine and the decider.
+//! The ring of three, and the swaps that document 01 lists, over the plain engine and the decider.
 
 use reference::book::{Book, Refusal, Transfer};
 use reference::commands::ringswap;

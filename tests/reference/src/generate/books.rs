@@ -7,7 +7,7 @@ use crate::random::Random;
 const ISSUERS: [&str; 4] = ["700012", "700056", "700057", "000057"];
 
 /// Bytes that stand next to a form's own, or belong to another part of it.
-const TEMPTING: &[u8] = b"\0\t\n\r  *-<=?@ACGPQRaghi0123489`\x7f\x80\xff";
+const NEAR_MISSES: &[u8] = b"\0\t\n\r  *-<=?@ACGPQRaghi0123489`\x7f\x80\xff";
 
 /// Lines that no form has, whatever stands above them.
 const FORMLESS: [&str; 62] = [
@@ -198,7 +198,7 @@ pub fn damaged(random: &mut Random) -> Vec<u8> {
 fn damage(text: &mut Vec<u8>, random: &mut Random) {
     let place = random.below(text.len() + 1);
     let line_start = start_of_line(text, place);
-    let byte = random.pick(TEMPTING);
+    let byte = random.pick(NEAR_MISSES);
     match random.below(9) {
         0 | 1 if place < text.len() => text[place] = byte,
         2 if place < text.len() => {

@@ -4,7 +4,7 @@ use crate::commands::MAX_LINE;
 use crate::random::Random;
 
 /// Bytes that spoil a line, or turn it into another right one.
-const TEMPTING: &[u8] = b"\0\t\r  -+.,0123456789AFafgxIDHS\x80\xff";
+const NEAR_MISSES: &[u8] = b"\0\t\r  -+.,0123456789AFafgxIDHS\x80\xff";
 
 const ILL_FORMED: [&str; 77] = [
     "",
@@ -140,7 +140,7 @@ pub fn unlikely(random: &mut Random) -> Vec<u8> {
 /// The line with one byte changed, added or taken away.
 pub fn damaged(mut line: Vec<u8>, random: &mut Random) -> Vec<u8> {
     let place = random.below(line.len());
-    let byte = random.pick(TEMPTING);
+    let byte = random.pick(NEAR_MISSES);
     match random.below(4) {
         0 => line[place] = byte,
         1 => line.insert(place, byte),
