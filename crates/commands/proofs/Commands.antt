@@ -1,5 +1,5 @@
 -- Printed commands are read back, and what is read is a printed command: word by word, a word ending at the first space.
-use mathlib.Core.Path.{_≡_, refl, sym, _∙_}
+use mathlib.Core.Path.{_≡_, refl, sym, _∙_, ap}
 use mathlib.Core.Bool.{Bool, true, false, not, _&&_, cond}
 use mathlib.Core.List.{List, [], _∷_, _++_, append-nil}
 use mathlib.Core.Option.{Option, none, some}
@@ -11,13 +11,13 @@ use lib.Dec.{T, eqb, leb, ltb, not-T, eqb→eq}
 use lib.ListN.{length, getD, take, drop, length-append}
 use lib.Seq.{take-append-seam, drop-append-add, split-at}
 use borrow.Author.Tests.{eqb-true, ne-eqb, lt-ltb, ltb-true}
-use Rattle.model.specs.Lists.{every, each, isByte}
+use Rattle.model.specs.Lists.{every, until, each, isByte}
 use Rattle.model.specs.Reader.{digitOf}
 use Rattle.model.specs.Calls.{Call, issue, redeem, query, settle}
 use Rattle.model.proofs.Tests.{T-eq, eq-T, and, both, every-map}
 use Rattle.model.proofs.Facts.{facts, never}
 use Rattle.commands.specs.Grammar.{decimal, hexDigit, hexByte, hexadecimal, largest, printCommand, wellFormed}
-use Rattle.commands.specs.Reader.{andThen, isDigit, readNumber, isHexadecimal, bytesOf, untilSpace, Cut, firstWord, Numbered, firstNumber}
+use Rattle.commands.specs.Reader.{andThen, isDigit, readNumber, isHexadecimal, bytesOf, Cut, firstWord, Numbered, firstNumber}
 use Rattle.commands.specs.Reader.{readTwo, readThree, readSettle, readForm, readCommand}
 use Rattle.commands.proofs.Decimals.{decimal-digits, number-printed, number-taken}
 use Rattle.commands.proofs.Pairs.{word-printed, word-taken}
@@ -53,8 +53,8 @@ hexadecimal-solid (b ∷ bs) = bytes-solid (b ∷ bs)
 
 -- ---- printed, then read
 
-until-space : (xs r : List ℕ) → T (every solid xs) → untilSpace (xs ++ (code " " ∷ r)) ≡ length xs
-unfolding untilSpace
+until-space : (xs r : List ℕ) → T (every solid xs) → until (code " ") (xs ++ (code " " ∷ r)) ≡ length xs
+unfolding until
 until-space [] r t = refl
 until-space (x ∷ xs) r t =
     let f = simp facts at t in
@@ -111,30 +111,30 @@ module _ {A B : Type 0} where
   step none f b e = never (cc)
   step (some a) f b e = record { value = a; is = refl; then = e }
 
-space-there : (s : List ℕ) → untilSpace s < length s → getD s (untilSpace s) 0 ≡ code " "
-unfolding untilSpace
+space-there : (s : List ℕ) → until (code " ") s < length s → getD s (until (code " ") s) 0 ≡ code " "
+unfolding until
 space-there [] l = absurd (omega arith)
 space-there (x ∷ s) l = go (eqb x (code " ")) refl l (space-there s)
   where
-    go : (f : Bool) → eqb x (code " ") ≡ f → cond f 0 (suc (untilSpace s)) < suc (length s) → (untilSpace s < length s → getD s (untilSpace s) 0 ≡ code " ")
-        → getD (x ∷ s) (cond f 0 (suc (untilSpace s))) 0 ≡ code " "
+    go : (f : Bool) → eqb x (code " ") ≡ f → cond f 0 (suc (until (code " ") s)) < suc (length s) → (until (code " ") s < length s → getD s (until (code " ") s) 0 ≡ code " ")
+        → getD (x ∷ s) (cond f 0 (suc (until (code " ") s))) 0 ≡ code " "
     go true e l h = eqb-true x (code " ") e
     go false e l h = h (omega arith)
 
 -- a word that is cut off, with its space and what stands behind it
 cut-back : (s : List ℕ) (c : Cut) → firstWord s ≡ some c → c .word ++ (code " " ∷ c .rest) ≡ s
 unfolding firstWord
-cut-back s c = go (ltb (untilSpace s) (length s)) refl
+cut-back s c = go (ltb (until (code " ") s) (length s)) refl
   where
     n : ℕ
-    n = untilSpace s
+    n = until (code " ") s
 
     go : (f : Bool) → ltb n (length s) ≡ f → cond f (some (record { word = take n s; rest = drop (n + 1) s })) none ≡ some c
         → c .word ++ (code " " ∷ c .rest) ≡ s
     go true e h =
         let l = ltb-true n (length s) e in
         let z : record { word = take n s; rest = drop (n + 1) s } ≡ c = cc in
-        rw (← z, add-one n, ← space-there s l) (sym (split-at s n 0 l))
+        rw (← z, add-one n) (ap (λ (x : ℕ). take n s ++ (x ∷ drop (suc n) s)) (sym (space-there s l)) ∙ sym (split-at s n 0 l))
     go false e h = never (cc)
 
 number-back : (s : List ℕ) (m : Numbered) → firstNumber s ≡ some m → (decimal (m .value) ++ (code " " ∷ m .rest) ≡ s) × (m .value ≤ largest)

@@ -7,10 +7,10 @@ use mathlib.Core.Bool.{Bool, true, false, not, _&&_, _||_, cond}
 use mathlib.Core.List.{List, [], _∷_}
 use mathlib.Core.Option.{Option, none, some}
 use Prim.Native.Char.{code}
-use Prim.Native.Nat.{ℕ, suc, _+_, _-_, _*_}
+use Prim.Native.Nat.{ℕ, _+_, _-_, _*_}
 use lib.Dec.{eqb, leb, ltb}
 use lib.ListN.{length, getD, take, drop}
-use Rattle.model.specs.Lists.{every, eqList, ascii}
+use Rattle.model.specs.Lists.{every, eqList, until, ascii}
 use Rattle.model.specs.Reader.{between, digitOf}
 use Rattle.model.specs.Calls.{Call, issue, redeem, query, settle}
 use Rattle.commands.specs.Grammar.{largest}
@@ -64,18 +64,13 @@ isHexadecimal w = eqList w (ascii "-") || (leb 1 (length w) && isPairs w)
 
 -- ---- words
 
--- how many bytes stand before the first space
-unfoldable pub untilSpace : List ℕ → ℕ
-untilSpace [] = 0
-untilSpace (x ∷ xs) = cond (eqb x (code " ")) 0 (suc (untilSpace xs))
-
 -- what stands before the first space, and behind it
 pub record Cut : Type 0 where
   pub word : List ℕ
   pub rest : List ℕ
 
 unfoldable pub firstWord : List ℕ → Option Cut
-firstWord s = cond (ltb (untilSpace s) (length s)) (some (record { word = take (untilSpace s) s; rest = drop (untilSpace s + 1) s })) none
+firstWord s = let n = until (code " ") s in cond (ltb n (length s)) (some (record { word = take n s; rest = drop (n + 1) s })) none
 
 -- a number before the first space, and what stands behind it
 pub record Numbered : Type 0 where

@@ -1,7 +1,6 @@
 // Words of lower-case hexadecimal, two digits a byte, `-` for none.
 ghost use mathlib.Core.Path.{_≡_};
 ghost use Prim.Native.Nat.{_≤_};
-ghost use lib.ListN.{getD};
 ghost use Rattle.commands.specs.Reader.{hexOf, pairOf, bytesOf, isPairs, isHexadecimal};
 ghost use Rattle.commands.specs.View.{Filled};
 
@@ -10,13 +9,6 @@ const NO_DIGIT: u8 = 16;
 const NO_BYTE: u32 = 256;
 
 const BEFORE_A: u8 = b'a' - 10;
-
-// A place past a word's end reads as the byte 0, which is no digit.
-fn byte(word: &[u8], at: usize) -> u8
-    ensures { λ r. ⌜ r ≡ getD (now (word .entry)) at 0 ⌝ }
-{
-    if at < word.len() { word[at] } else { 0 }
-}
 
 // 0 to 15, or NO_DIGIT.
 fn digit(x: u8) -> u8
@@ -60,7 +52,7 @@ fn is_pairs(word: &[u8]) -> bool
 {
     let mut i = 0;
     while i < word.len() {
-        if 255 < pair(word[i], byte(word, i + 1)) {
+        if 255 < pair(word[i], ascii::byte(word, i + 1)) {
             return false;
         }
         i += 2;
@@ -75,7 +67,7 @@ pub fn unhex(word: &[u8], out: &mut [u8]) -> usize
     let mut i = 0;
     let mut n = 0;
     while n < out.len() {
-        let b = pair(byte(word, i), byte(word, i + 1));
+        let b = pair(ascii::byte(word, i), ascii::byte(word, i + 1));
         if 255 < b {
             return n;
         }

@@ -6,10 +6,10 @@ use crate::hexadecimal;
 use crate::numbers;
 use crate::numbers::Number;
 ghost use mathlib.Core.Path.{_≡_};
-ghost use Prim.Native.Nat.{ℕ, _+_, _≤_};
+ghost use Prim.Native.Nat.{ℕ, _≤_};
 ghost use lib.ListN.{length, drop};
 ghost use Rattle.model.specs.Calls.{Call};
-ghost use Rattle.commands.specs.Reader.{untilSpace, firstNumber, readThree, readTwo, readSettle, readCommand};
+ghost use Rattle.commands.specs.Reader.{firstNumber, readThree, readTwo, readSettle, readCommand};
 ghost use Rattle.commands.specs.View.{Reads};
 ghost use Rattle.commands.specs.Parts.{leadingOf, Goes, tripleOf};
 
@@ -27,26 +27,11 @@ enum Triple {
     Missing,
 }
 
-// The place of the first space from a place on, or the line's length.
-fn word_end(line: &[u8], at: usize) -> usize
-    requires { ⌜ at ≤ length (now line) ⌝ }
-    ensures { λ r. ⌜ (r ≡ at + untilSpace (drop at (now (line .entry)))) × (r ≤ length (now (line .entry))) ⌝ }
-{
-    let mut i = at;
-    while i < line.len() {
-        if line[i] == b' ' {
-            return i;
-        }
-        i += 1;
-    }
-    i
-}
-
 fn first_number(line: &[u8], at: usize) -> Leading
     requires { ⌜ at ≤ length (now line) ⌝ }
     ensures { λ r. ⌜ (leadingOf (now (line .entry)) r ≡ firstNumber (drop at (now (line .entry)))) × Goes (now (line .entry)) r ⌝ }
 {
-    let end = word_end(line, at);
+    let end = ascii::find(line, at, b' ');
     if end == line.len() {
         return Leading::Missing;
     }
@@ -90,7 +75,7 @@ fn settlement(line: &[u8]) -> Command
     requires { ⌜ 2 ≤ length (now line) ⌝ }
     ensures { λ r. ⌜ Reads (now (line .entry)) (readSettle (drop 2 (now (line .entry)))) r ⌝ }
 {
-    let end = word_end(line, BODY);
+    let end = ascii::find(line, BODY, b' ');
     let len = line.len();
     if end == len {
         return Command::Bad;

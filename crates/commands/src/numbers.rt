@@ -2,29 +2,16 @@
 ghost use mathlib.Core.Path.{_≡_};
 ghost use Prim.Native.Nat.{_+_, _≤_};
 ghost use lib.ListN.{length};
-ghost use Rattle.model.specs.Reader.{digitOf};
 ghost use Rattle.commands.specs.Grammar.{decimal};
 ghost use Rattle.commands.specs.Reader.{isPlain, readNumber};
 ghost use Rattle.commands.specs.Parts.{numberOf, Put};
 
 const LARGEST: u64 = 4294967295;
 
-const NO_DIGIT: u8 = 10;
-
 // The number of a word, if it is one.
 pub(crate) enum Number {
     Is(u32),
     Missing,
-}
-
-// 0 to 9, or NO_DIGIT.
-fn digit(x: u8) -> u8
-    ensures { λ r. ⌜ (r ≡ digitOf x) × (r ≤ 10) ⌝ }
-{
-    match x {
-        b'0'..=b'9' => x - b'0',
-        _ => NO_DIGIT,
-    }
 }
 
 // Whether a word is not empty and has no leading zero.
@@ -47,7 +34,7 @@ pub(crate) fn read(word: &[u8]) -> Number
     }
     let mut value: u64 = 0;
     for i in 0..word.len() {
-        let d = digit(word[i]);
+        let d = ascii::digit(word[i]);
         if 9 < d {
             return Number::Missing;
         }

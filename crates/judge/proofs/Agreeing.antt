@@ -9,13 +9,13 @@ use lib.Dec.{eqb}
 use lib.ListN.{length, getD, take}
 use lib.Seq.{getD-take}
 use borrow.Author.Tests.{not-true}
-use Rattle.model.specs.Lists.{within, every}
+use Rattle.model.specs.Lists.{within, every, allTrue}
 use Rattle.model.specs.Questions.{Question, _⇒_, firstUnmet}
 use Rattle.model.specs.Grammar.{Rule}
 use Rattle.model.specs.Book.{Book, declared}
 use Rattle.model.specs.Transfers.{Transfer, Exchange, transferAt, exchangeOf, noTransfer}
 use Rattle.model.specs.Fairness.{pricesOf, variables, isPayable, holds}
-use Rattle.model.specs.Proof.{next, claim, ruleNumber, cards, ruleOf, claimed, marked, allClaimed, uses, recordQuestions}
+use Rattle.model.specs.Proof.{next, claim, ruleNumber, cards, ruleOf, claimed, marked, uses, recordQuestions}
 use Rattle.model.proofs.Tests.{both-true, cond-cong, within-true}
 use Rattle.model.proofs.Places.{upTo-length, upTo-at}
 use Rattle.model.proofs.Soundness.{unclaimed, unclaimed-set, all-claimed}
@@ -124,7 +124,7 @@ module _ (t : Parts) (limited : Limited t) (lengths e : List ℕ) (short : lengt
 
     module _ (left records : ℕ) (unclaimed≡ : unclaimed (take n marks) ≡ suc left) where
       link≡ : getD (take n marks) (claim r - 1) true ≡ false
-          → cond (allClaimed (marked (take n marks) r)) (eqb (next r) 0) (within (next r) records) ≡ isLinked left (next r) records
+          → cond (allTrue (marked (take n marks) r)) (eqb (next r) 0) (within (next r) records) ≡ isLinked left (next r) records
       link≡ h =
           ap (λ (z : Bool). cond z (eqb (next r) 0) (within (next r) records))
           (all-claimed (marked (take n marks) r) ∙ ap (λ (z : ℕ). eqb z 0) less)
@@ -145,4 +145,4 @@ module _ (t : Parts) (limited : Limited t) (lengths e : List ℕ) (short : lengt
           ∙ rule-agrees r (transferAt e (claim r - 1)) (isLinked left (next r) records))
         where
           linked : Bool
-          linked = cond (allClaimed (marked (take n marks) r)) (eqb (next r) 0) (within (next r) records)
+          linked = cond (allTrue (marked (take n marks) r)) (eqb (next r) 0) (within (next r) records)

@@ -9,13 +9,13 @@ use lib.Dec.{T, eqb, leb, eqb-refl, le→leb, lt→ltb}
 use lib.ListN.{length, getD, set, take, drop, replicate, length-append}
 use lib.Seq.{append-snoc, getD-at, set-at, drop-at, getD-drop}
 use Rattle.model.specs.Limits.{cardLimit, ruleLimit, variableCount, recordSize, proofLimit, transferSize, exchangeLimit}
-use Rattle.model.specs.Lists.{within, isByte, every, upTo}
+use Rattle.model.specs.Lists.{within, isByte, every, allTrue, upTo}
 use Rattle.model.specs.Questions.{ok, done}
 use Rattle.model.specs.Grammar.{Rule, isVariable}
 use Rattle.model.specs.Book.{Book, declared, noRule, ruleAt}
 use Rattle.model.specs.Transfers.{Transfer, Exchange, count, _⊑_, contained, noTransfer}
 use Rattle.model.specs.Fairness.{Fair, Approval, owner, head, prices, pricesOf, variables, Among}
-use Rattle.model.specs.Proof.{recordAt, cards, claimed, marked, allClaimed, uses, recordQuestions, chain, judge}
+use Rattle.model.specs.Proof.{recordAt, cards, claimed, marked, uses, recordQuestions, chain, judge}
 use Rattle.model.specs.Calls.{isSized}
 use Rattle.model.specs.Theorems.{ProofOf}
 use Rattle.model.proofs.Tests.{T-eq, eq-T, and, within→, →within, every-at, every-all, every-append, every-in}
@@ -58,12 +58,12 @@ module _ {b : Book} where
 
 -- ---- marks of a chain in order
 
-some-left : (M F : List Bool) → allClaimed (M ++ (true ∷ false ∷ F)) ≡ false
+some-left : (M F : List Bool) → allTrue (M ++ (true ∷ false ∷ F)) ≡ false
 some-left [] F = refl
 some-left (true ∷ M) F = some-left M F
 some-left (false ∷ M) F = refl
 
-none-left : (M : List Bool) → T (allClaimed M) → allClaimed (M ++ (true ∷ [])) ≡ true
+none-left : (M : List Bool) → T (allTrue M) → allTrue (M ++ (true ∷ [])) ≡ true
 none-left [] h = refl
 none-left (true ∷ M) h = none-left M h
 none-left (false ∷ M) h = absurd h
@@ -112,7 +112,7 @@ module _ (b : Book) (lettered : Lettered b) where
     prices≡ = rule-prices (cards bytes) (a .cards) rule its
 
     -- record j + 1 meets questions 15 to 20
-    passes : T (cond (allClaimed (M ++ (true ∷ F))) (eqb following 0) (within following n)) → AllMet (recordQuestions b X n bytes (M ++ (false ∷ F)))
+    passes : T (cond (allTrue (M ++ (true ∷ F))) (eqb following 0) (within following n)) → AllMet (recordQuestions b X n bytes (M ++ (false ∷ F)))
     passes h = (
       →within (suc j) (length X) (omega arith) (rw x (rw length-append (omega arith))),
       (
@@ -149,7 +149,7 @@ module _ (b : Book) (lettered : Lettered b) where
     )
 
     step : (p : List ℕ) (k : ℕ) (P : Exchange) → length p / recordSize ≡ n → recordAt p (suc j) ≡ bytes
-        → T (cond (allClaimed (M ++ (true ∷ F))) (eqb following 0) (within following n))
+        → T (cond (allTrue (M ++ (true ∷ F))) (eqb following 0) (within following n))
         → chain b X p (suc k) (suc j) (M ++ (false ∷ F)) P ≡ chain b X p k following (M ++ (true ∷ F)) (prices a ++ P)
     unfolding chain
     step p k P size e h =
@@ -166,7 +166,7 @@ module _ (b : Book) (lettered : Lettered b) where
 
   -- the chain from record j + 1 on: Y, B and M are the transfers, the bytes and the marks before it
   walk : (X : Exchange) (l : List (Approval b)) (a : Approval b) (j n : ℕ) (Y : Exchange) (B : List ℕ) (M : List Bool) (P : Exchange) (p : List ℕ)
-      → X ≡ Y ++ heads (a ∷ l) → length Y ≡ j → p ≡ B ++ encode (suc j) (a ∷ l) → length B ≡ j * recordSize → length M ≡ j → T (allClaimed M)
+      → X ≡ Y ++ heads (a ∷ l) → length Y ≡ j → p ≡ B ++ encode (suc j) (a ∷ l) → length B ≡ j * recordSize → length M ≡ j → T (allTrue M)
       → length p / recordSize ≡ n → suc j + length l ≤ n → ((t : Transfer) → count t P + count t (allPrices (a ∷ l)) ≤ count t X)
       → (Q : Exchange) × (chain b X p (length (a ∷ l)) (suc j) (M ++ replicate (length (a ∷ l)) false) P ≡ ok Q) × (Q ⊑ X)
   unfolding chain

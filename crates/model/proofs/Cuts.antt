@@ -8,9 +8,9 @@ use Prim.Native.Nat.{ℕ, _/_, _%_}
 use native.Mathlib.Omega.{arith}
 use lib.Dec.{T, eqb, leb}
 use borrow.Author.Tests.{eqb-true}
-use Rattle.model.specs.Lists.{every, ascii}
+use Rattle.model.specs.Lists.{every, each, ascii}
 use Rattle.model.specs.Grammar.{Name, var, star, Price, Condition, inGroup, sameIssuer, Line, card, group, rule}
-use Rattle.model.specs.Grammar.{digit, decimal, nameLetter, priceWords, conditionWords, allWords, words, spaced, printLine, printText}
+use Rattle.model.specs.Grammar.{digit, decimal, nameLetter, priceWords, conditionWords, words, spaced, printLine, printText}
 use Rattle.model.specs.Reader.{cut}
 use Rattle.model.proofs.Tests.{both, every-append, ne-eqb, eqb-ne}
 use Rattle.model.proofs.Facts.{facts}
@@ -44,9 +44,9 @@ plain-condition : (c : Condition) → T (every plain (conditionWords c))
 plain-condition (inGroup g z) = simp facts (omega (arith, plain-name z))
 plain-condition (sameIssuer y z) = simp facts (omega (arith, plain-name y, plain-name z))
 
-plain-all : {A : Type 0} (f : A → List (List ℕ)) → ((x : A) → T (every plain (f x))) → (xs : List A) → T (every plain (allWords f xs))
+plain-all : {A : Type 0} (f : A → List (List ℕ)) → ((x : A) → T (every plain (f x))) → (xs : List A) → T (every plain (each f xs))
 plain-all f h [] = tt
-plain-all f h (x ∷ xs) = every-append plain (f x) (allWords f xs) (h x) (plain-all f h xs)
+plain-all f h (x ∷ xs) = every-append plain (f x) (each f xs) (h x) (plain-all f h xs)
 
 plain-words : (l : Line) → T (every plain (words l))
 plain-words (card ds) = simp facts (omega arith, (plain-digits ds, tt))
@@ -54,7 +54,7 @@ plain-words (group g m) = simp facts (omega arith, (omega arith, (plain-decimal 
 plain-words (rule r) =
     let ps = plain-all priceWords plain-price (r .prices) in
     let cs = plain-all conditionWords plain-condition (r .conditions) in
-    let all = every-append plain (allWords priceWords (r .prices)) (allWords conditionWords (r .conditions)) ps cs in
+    let all = every-append plain (each priceWords (r .prices)) (each conditionWords (r .conditions)) ps cs in
     simp facts (omega arith, (plain-decimal (r .owner), (omega arith, (omega arith, all))))
 
 plain-spaces : (ws : List (List ℕ)) → T (every plain ws) → T (plain (withSpaces ws))

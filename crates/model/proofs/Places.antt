@@ -1,18 +1,19 @@
--- Laws of lists by their places (`upTo`, `oneTo`), and of the first place at which a test fails (`leading`).
+-- Laws of lists by their places (`upTo`, `oneTo`), of the first place of a byte (`until`), and of the first place at which a test
+-- fails (`leading`).
 use mathlib.Core.Path.{_≡_, refl}
 use mathlib.Core.Bool.{Bool, true, false, _||_, cond}
 use mathlib.Core.List.{List, [], _∷_, _++_}
-use mathlib.Core.Logic.{⊎-elim}
+use mathlib.Core.Logic.{_≢_, ⊎-elim}
 use Prim.Native.Nat.{ℕ, zero, suc, _+_, _≤_, _<_}
 use native.Mathlib.Omega.{arith}
 use native.Mathlib.Nat.{eq-or-lt-of-le}
 use native.Mathlib.Decide.{le-ind}
 use native.Mathlib.Numerals.{add-one}
 use lib.Dec.{T, eqb}
-use lib.ListN.{length, getD, replicate, length-append, List·getD-append}
-use lib.Seq.{getD-at}
+use lib.ListN.{length, getD, drop, replicate, length-append, drop-of-length-le, List·getD-append}
+use lib.Seq.{getD-at, drop-cons}
 use borrow.Author.Tests.{eq-eqb, ne-eqb, eqb-true}
-use Rattle.model.specs.Lists.{every, any, upTo, oneTo}
+use Rattle.model.specs.Lists.{every, any, until, upTo, oneTo}
 use Rattle.model.specs.Reader.{leading}
 use Rattle.model.proofs.Tests.{and, every-append, eqb-ne, or-right}
 
@@ -73,6 +74,21 @@ in-oneTo n (suc m) h k = go (eqb n (suc m)) refl (λ j. in-oneTo n m h j)
 
 pub every-oneTo : (p : ℕ → Bool) (n : ℕ) → ((c : ℕ) → 1 ≤ c → c ≤ n → T (p c)) → T (every p (oneTo n))
 every-oneTo p n h = every-upTo p suc n (λ i l. h (suc i) (omega arith) (omega arith))
+
+-- ---- where x stands first, by a loop that is at place i of s
+
+module _ (x : ℕ) (s : List ℕ) (i : ℕ) where
+  pub until-here : i < length s → getD s i 0 ≡ x → until x (drop i s) ≡ 0
+  unfolding until
+  until-here l e = rw (drop-cons s i 0 l, eq-eqb (getD s i 0) x e)
+
+  pub until-further : i < length s → getD s i 0 ≢ x → until x (drop i s) ≡ suc (until x (drop (i + 1) s))
+  unfolding until
+  until-further l d = rw (add-one i, drop-cons s i 0 l, ne-eqb (getD s i 0) x d)
+
+  pub until-end : length s ≤ i → until x (drop i s) ≡ 0
+  unfolding until
+  until-end l = rw (drop-of-length-le s {i = i} l)
 
 -- ---- how many hold before the first that does not
 

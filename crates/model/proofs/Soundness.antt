@@ -9,11 +9,12 @@ use native.Mathlib.Omega.{arith}
 use lib.Dec.{T, eqb, eqb→eq, T-not, eqb·suc-zero}
 use lib.ListN.{length, getD, set, replicate, length-set, length-replicate}
 use Rattle.model.specs.Limits.{recordSize}
+use Rattle.model.specs.Lists.{allTrue}
 use Rattle.model.specs.Questions.{ok, Told, done, _⇒_, inOrder}
 use Rattle.model.specs.Book.{Book, declared}
 use Rattle.model.specs.Transfers.{Transfer, Exchange, same, count, _~_, contained, noTransfer}
 use Rattle.model.specs.Fairness.{Approval, head, Fair, isProper, Among}
-use Rattle.model.specs.Proof.{recordAt, next, claim, ruleNumber, cards, ruleOf, claimed, asked, marked, allClaimed, recordQuestions, chain, judge}
+use Rattle.model.specs.Proof.{recordAt, next, claim, ruleNumber, cards, ruleOf, claimed, asked, marked, recordQuestions, chain, judge}
 use Rattle.model.specs.Theorems.{Soundness}
 use Rattle.model.proofs.Tests.{eq-T, not-T-eq, both, eqb-same, within→, every-at}
 use Rattle.model.proofs.Questions.{AllMet, inOrder-ok, andThen-ok}
@@ -34,7 +35,7 @@ unclaimed-set (false ∷ m) zero e = refl
 unclaimed-set (true ∷ m) (suc j) e = unclaimed-set m j e
 unclaimed-set (false ∷ m) (suc j) e = ap suc (unclaimed-set m j e)
 
-pub all-claimed : (m : List Bool) → allClaimed m ≡ eqb (unclaimed m) 0
+pub all-claimed : (m : List Bool) → allTrue m ≡ eqb (unclaimed m) 0
 all-claimed [] = refl
 all-claimed (true ∷ m) = all-claimed m
 all-claimed (false ∷ m) = sym (eqb·suc-zero (unclaimed m))
@@ -67,7 +68,7 @@ taken-set (t ∷ X) (x ∷ m) zero h e u = rw e
 taken-set (t ∷ X) (x ∷ m) (suc j) h e u =
     keep-count u x t (taken X (set m j true)) (taken X m) (getD X j noTransfer) (taken-set X m j (omega arith) e u)
 
-taken-all : (X : Exchange) (m : List Bool) → length m ≡ length X → T (allClaimed m) → taken X m ≡ X
+taken-all : (X : Exchange) (m : List Bool) → length m ≡ length X → T (allTrue m) → taken X m ≡ X
 taken-all [] m e h = refl
 taken-all (t ∷ X) [] e h = absurd (omega arith)
 taken-all (t ∷ X) (true ∷ m) e h = ap {B = Exchange} (λ (Y : Exchange). t ∷ Y) (taken-all X m (omega arith) h)

@@ -6,7 +6,7 @@ use Prim.Native.Nat.{ℕ}
 use lib.Dec.{eqb}
 use lib.ListN.{length, getD}
 use Rattle.model.specs.Limits.{variableCount}
-use Rattle.model.specs.Lists.{within, every, any, upTo, oneTo}
+use Rattle.model.specs.Lists.{within, every, any, allTrue, upTo, oneTo}
 use Rattle.model.specs.Grammar.{Rule}
 use Rattle.model.specs.Book.{Book, declared, ruleAt}
 use Rattle.model.specs.Transfers.{Transfer, Exchange, contained}
@@ -36,9 +36,6 @@ choices b r = map (λ v. cond (uses r v) (oneTo (length (b .cards))) (0 ∷ []))
 
 abbrev pub chosen : List ℕ → Assignment
 chosen ys v = getD ys v 0
-
-abbrev pub allTrue : List Bool → Bool
-allTrue = every (λ x. x)
 
 -- each transfer of the second list is the head of some approval, and all their prices with P are contained in X
 unfoldable pub backedBy : Book → Exchange → Exchange → Exchange → Bool

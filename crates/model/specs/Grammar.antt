@@ -73,16 +73,12 @@ abbrev pub conditionWords : Condition → List (List ℕ)
 conditionWords (inGroup g z) = ascii "?" ∷ word (digit g) ∷ word (nameLetter z) ∷ []
 conditionWords (sameIssuer y z) = ascii "=" ∷ word (nameLetter y) ∷ word (nameLetter z) ∷ []
 
-abbrev pub allWords : {A : Type 0} → (A → List (List ℕ)) → List A → List (List ℕ)
-allWords f [] = []
-allWords f (x ∷ xs) = f x ++ allWords f xs
-
 abbrev pub words : Line → List (List ℕ)
 words (card ds) = ascii "C" ∷ map digit ds ∷ []
 words (group g m) = ascii "G" ∷ word (digit g) ∷ decimal m ∷ []
 words (rule r) =
     ascii "R" ∷ decimal (r .owner) ∷ word (kindLetter (r .kind)) ∷ word (variableLetter (r .head))
-    ∷ (allWords priceWords (r .prices) ++ allWords conditionWords (r .conditions))
+    ∷ (each priceWords (r .prices) ++ each conditionWords (r .conditions))
 
 -- "single spaces between words"
 abbrev pub spaced : List (List ℕ) → List ℕ

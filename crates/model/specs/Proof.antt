@@ -5,7 +5,7 @@ use Prim.Native.Nat.{ℕ, zero, suc, _+_, _-_, _*_, _/_}
 use lib.Dec.{eqb}
 use lib.ListN.{length, getD, set, take, drop, replicate}
 use Rattle.model.specs.Limits.{recordSize, variableCount}
-use Rattle.model.specs.Lists.{within, every, any, upTo}
+use Rattle.model.specs.Lists.{within, every, any, allTrue, upTo}
 use Rattle.model.specs.Questions.{Answer, ok, done, Reply, Question, _⇒_, inOrder, andThen}
 use Rattle.model.specs.Grammar.{Rule}
 use Rattle.model.specs.Book.{Book, declared, ruleAt}
@@ -46,9 +46,6 @@ asked b r = pricesOf (ruleOf b r) (cards r)
 abbrev pub marked : List Bool → List ℕ → List Bool
 marked m r = set m (claim r - 1) true
 
-abbrev pub allClaimed : List Bool → Bool
-allClaimed m = every (λ x. x) m
-
 abbrev pub uses : Rule → ℕ → Bool
 uses r v = any (eqb v) (variables r)
 
@@ -72,7 +69,7 @@ recordQuestions b X n r m =
     -- do all conditions hold?
     (19 ⇒ every (holds b (ruleOf b r) (cards r)) (ruleOf b r .conditions)) ∷
     -- is next zero if every transfer is claimed by now, and otherwise a record of the proof?
-    (20 ⇒ cond (allClaimed (marked m r)) (eqb (next r) 0) (within (next r) n)) ∷ []
+    (20 ⇒ cond (allTrue (marked m r)) (eqb (next r) 0) (within (next r) n)) ∷ []
 
 -- The chain from record i on, to the prices of all its records. `left` transfers are not claimed yet: each record that passes
 -- question 15 claims one more, and question 20 ends the chain with the last. m: what is claimed; P: the prices so far.

@@ -5,11 +5,11 @@ use mathlib.Core.List.{List, [], _∷_}
 use Prim.Native.Char.{code}
 use Prim.Native.Nat.{ℕ, suc, _+_, _-_, _≤_, _<_}
 use native.Mathlib.Omega.{arith}
-use native.Mathlib.Numerals.{add-one}
 use lib.Dec.{eqb}
-use lib.ListN.{length, getD, take, drop, length-drop}
-use lib.Seq.{drop-cons, drop-length, drop-drop}
-use borrow.Author.Tests.{le-leb, lt-leb, eq-eqb, ne-eqb}
+use lib.ListN.{length, take, drop, length-drop}
+use lib.Seq.{drop-length, drop-drop}
+use borrow.Author.Tests.{le-leb, lt-leb, ne-eqb}
+use Rattle.model.specs.Lists.{until}
 use Rattle.model.specs.Questions.{Answer, ok, refused, andThen}
 use Rattle.model.specs.Reader.{Cut, cut}
 use Rattle.model.specs.Book.{Book}
@@ -18,47 +18,32 @@ use Rattle.model.specs.Opening.{openLine, openLines, opening}
 use Rattle.answers.specs.declared.Answer.the-variants.{Done, Refused}
 use Rattle.rulebook.specs.View.{bookOf}
 use Rattle.rulebook.specs.Reads.{noTables, Reads}
-use Rattle.rulebook.specs.Lines.{untilLF, Sized, Taken}
+use Rattle.rulebook.specs.Lines.{Sized, Taken}
 use Rattle.rulebook.specs.declared.Tables.{Tables}
 use Rattle.rulebook.proofs.Grown.{no-tables}
-
--- ---- the place of the first LF, by a loop that is at place i of s
-
-module _ (s : List ℕ) (i : ℕ) (l : i < length s) where
-  pub further : (getD s i 0 ≡ code "\n" → ⊥) → untilLF (drop i s) ≡ untilLF (drop (i + 1) s) + 1
-  unfolding untilLF
-  further p = rw (add-one i, drop-cons s i 0 l, ne-eqb (getD s i 0) (code "\n") p) (sym (add-one _))
-
-  pub here : getD s i 0 ≡ code "\n" → untilLF (drop i s) ≡ 0
-  unfolding untilLF
-  here p = rw (drop-cons s i 0 l, eq-eqb (getD s i 0) (code "\n") p)
-
-pub at-the-end : (s : List ℕ) (i : ℕ) → i ≡ length s → untilLF (drop i s) ≡ 0
-unfolding untilLF
-at-the-end s i e = rw (e, drop-length s)
 
 -- ---- the text cut at its first LF
 
 abbrev firstCut : List ℕ → Cut
-firstCut xs = record { lines = take (untilLF xs) xs ∷ cut (drop (suc (untilLF xs)) xs) .lines; last = cut (drop (suc (untilLF xs)) xs) .last }
+firstCut xs = let n = until (code "\n") xs in record { lines = take n xs ∷ cut (drop (suc n) xs) .lines; last = cut (drop (suc n) xs) .last }
 
-cut-line : (xs : List ℕ) → untilLF xs < length xs → cut xs ≡ firstCut xs
-unfolding untilLF cut
+cut-line : (xs : List ℕ) → until (code "\n") xs < length xs → cut xs ≡ firstCut xs
+unfolding until cut
 cut-line [] l = absurd (omega arith)
 cut-line (x ∷ xs) l = go (eqb x (code "\n")) refl (cut-line xs)
   where
-    go : (b : Bool) → eqb x (code "\n") ≡ b → (untilLF xs < length xs → cut xs ≡ firstCut xs) → cut (x ∷ xs) ≡ firstCut (x ∷ xs)
+    go : (b : Bool) → eqb x (code "\n") ≡ b → (until (code "\n") xs < length xs → cut xs ≡ firstCut xs) → cut (x ∷ xs) ≡ firstCut (x ∷ xs)
     go true e h = rw e
-    go false e h = let m : untilLF xs < length xs = (let k = rw e at l in omega arith) in rw (e, h m)
+    go false e h = let m : until (code "\n") xs < length xs = (let k = rw e at l in omega arith) in rw (e, h m)
 
-cut-rest : (xs : List ℕ) → untilLF xs ≡ length xs → cut xs ≡ record { lines = []; last = xs }
-unfolding untilLF cut
+cut-rest : (xs : List ℕ) → until (code "\n") xs ≡ length xs → cut xs ≡ record { lines = []; last = xs }
+unfolding until cut
 cut-rest [] l = refl
 cut-rest (x ∷ xs) l = go (eqb x (code "\n")) refl (cut-rest xs)
   where
-    go : (b : Bool) → eqb x (code "\n") ≡ b → (untilLF xs ≡ length xs → cut xs ≡ record { lines = []; last = xs }) → cut (x ∷ xs) ≡ record { lines = []; last = x ∷ xs }
+    go : (b : Bool) → eqb x (code "\n") ≡ b → (until (code "\n") xs ≡ length xs → cut xs ≡ record { lines = []; last = xs }) → cut (x ∷ xs) ≡ record { lines = []; last = x ∷ xs }
     go true e h = absurd (let k = rw e at l in omega arith)
-    go false e h = let m : untilLF xs ≡ length xs = (let k = rw e at l in omega arith) in rw (e, h m)
+    go false e h = let m : until (code "\n") xs ≡ length xs = (let k = rw e at l in omega arith) in rw (e, h m)
 
 -- ---- the lines from the place at on, the first of them line i, over the book b
 
@@ -81,7 +66,7 @@ all-read text at i b h e = sym h ∙ rw (e, drop-length text)
 pub record Turn (text : List ℕ) (at i end : ℕ) (t : Tables) : Type 0 where
   pub so-far : openFrom text at i (bookOf t) ≡ opening text
   pub within : at < length text
-  pub ends : end ≡ at + untilLF (drop at text)
+  pub ends : end ≡ at + until (code "\n") (drop at text)
 
 module _ {text : List ℕ} {at i end : ℕ} {t : Tables} (turn : Turn text at i end t) where
   pub no-LF : end ≡ length text → opening text ≡ refused 2 i
@@ -101,7 +86,7 @@ module _ {text : List ℕ} {at i end : ℕ} {t : Tables} (turn : Turn text at i 
     line-first =
         let n = length-drop at text in
         let e = turn .ends in
-        let k : untilLF (drop at text) ≡ end - at = omega arith in
+        let k : until (code "\n") (drop at text) ≡ end - at = omega arith in
         let s : at + suc (end - at) ≡ end + 1 = omega arith in
         sym (turn .so-far) ∙ rw (cut-line (drop at text) (omega arith), k, drop-drop (suc (end - at)) at text, s)
 

@@ -3,8 +3,7 @@
 use mathlib.Core.Bool.{not, cond}
 use mathlib.Core.Path.{_≡_}
 use mathlib.Core.List.{List, [], _∷_}
-use Prim.Native.Char.{code}
-use Prim.Native.Nat.{ℕ, suc, _+_, _-_, _*_, _≤_}
+use Prim.Native.Nat.{ℕ, _+_, _-_, _*_, _≤_}
 use lib.Dec.{eqb, ltb}
 use lib.ListN.{length, getD, set}
 use lib.Seq.{paste}
@@ -21,11 +20,6 @@ use Rattle.rulebook.specs.declared.Tables.{Tables}
 -- no form is longer than this: `R 99 K v`, four prices, four conditions
 abbrev pub longest : ℕ
 longest = 64
-
--- how many bytes stand before the first LF
-unfoldable pub untilLF : List ℕ → ℕ
-untilLF [] = 0
-untilLF (x ∷ xs) = cond (eqb x (code "\n")) 0 (suc (untilLF xs))
 
 -- ---- questions 2 to 7, by the line's form
 

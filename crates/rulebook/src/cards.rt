@@ -2,7 +2,6 @@
 use crate::CARD_LIMIT;
 use crate::LEAST_DIGITS;
 use crate::MOST_DIGITS;
-use crate::letters;
 ghost use mathlib.Core.Path.{_≡_};
 ghost use mathlib.Core.List.{map};
 ghost use Prim.Native.Nat.{_≤_, _<_, _*_, min, max};
@@ -21,7 +20,7 @@ fn all_digits(s: &[u8]) -> bool
     ensures { λ r. ⌜ r ≡ every (λ x. leb (digitOf x) 9) (now (s .entry)) ⌝ }
 {
     for i in 0..s.len() {
-        if 9 < letters::digit(s[i]) {
+        if 9 < ascii::digit(s[i]) {
             return false;
         }
     }
@@ -34,7 +33,7 @@ fn has_form(line: &[u8]) -> bool
     if line.len() <= 2 {
         return false;
     }
-    let spaced = letters::byte(line, 1) == b' ';
+    let spaced = ascii::byte(line, 1) == b' ';
     spaced & all_digits(&line[2..])
 }
 
@@ -60,7 +59,7 @@ fn checks(s: &[u8]) -> bool
 {
     let mut sum = 0;
     for i in 0..s.len() {
-        sum += weigh(s.len() - (i + 1), letters::digit(s[i]));
+        sum += weigh(s.len() - (i + 1), ascii::digit(s[i]));
     }
     sum % 10 == 0
 }
@@ -104,7 +103,7 @@ fn is_known(s: &[u8], n: usize, digits: &[u8; 608], lengths: &[u8; 32]) -> bool
             continue 'cards;
         }
         for d in 0..count {
-            if digits[i * MOST_DIGITS + d] != letters::digit(s[d]) {
+            if digits[i * MOST_DIGITS + d] != ascii::digit(s[d]) {
                 continue 'cards;
             }
         }
@@ -120,7 +119,7 @@ fn put_digits(digits: &mut [u8; 608], n: usize, s: &[u8])
     ensures { λ r. ⌜ now (digits .exit) ≡ paste (now (digits .entry)) (n * mostDigits) (map digitOf (now (s .entry))) (length (now (s .entry))) ⌝ }
 {
     for j in 0..s.len() {
-        digits[n * MOST_DIGITS + j] = letters::digit(s[j]);
+        digits[n * MOST_DIGITS + j] = ascii::digit(s[j]);
     }
 }
 

@@ -12,9 +12,9 @@ fn has_form(line: &[u8]) -> bool
     ensures { λ r. ⌜ r ≡ isGroupLine (now (line .entry)) ⌝ }
 {
     let n = letters::number_width(line, 4);
-    let g = letters::group(letters::byte(line, 2));
-    let numbered = (letters::byte(line, 3) == b' ') & ((1 <= n) & (4 + n == line.len()));
-    (letters::byte(line, 1) == b' ') & ((1 <= g) & numbered)
+    let g = letters::group(ascii::byte(line, 2));
+    let numbered = (ascii::byte(line, 3) == b' ') & ((1 <= n) & (4 + n == line.len()));
+    (ascii::byte(line, 1) == b' ') & ((1 <= g) & numbered)
 }
 
 // Questions 2 and 6.
@@ -25,7 +25,7 @@ pub(crate) fn take(line: &[u8], cards: u8, groups: &mut [u8; 256]) -> u8
     if !has_form(line) {
         return answers::NO_FORM;
     }
-    let g = letters::group(letters::byte(line, 2)) as usize;
+    let g = letters::group(ascii::byte(line, 2)) as usize;
     let m = letters::number_at(line, 4);
     if cards < m {
         return answers::CARD_NOT_ABOVE;

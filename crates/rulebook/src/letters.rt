@@ -1,10 +1,7 @@
 // What a byte stands for, and the parts of a line that more than one form has: a mark between spaces, and m.
-//
-// A place past a line's end reads as the byte 0, which is in no form.
 ghost use mathlib.Core.Path.{_≡_};
 ghost use Prim.Native.Nat.{_≤_};
-ghost use lib.ListN.{getD};
-ghost use Rattle.model.specs.Reader.{kindOf, variableOf, nameOf, groupOf, digitOf, markAt, widthOf, numberOf, numberWidth, numberAt};
+ghost use Rattle.model.specs.Reader.{kindOf, variableOf, nameOf, groupOf, markAt, widthOf, numberOf, numberWidth, numberAt};
 ghost use Rattle.rulebook.specs.Lines.{longest};
 
 // Kinds are numbered from 1.
@@ -17,14 +14,6 @@ pub(crate) const STAR: u8 = VARIABLE_COUNT;
 
 // What says that a byte is none of the letters asked for.
 const NO_VARIABLE: u8 = 9;
-
-const NO_DIGIT: u8 = 10;
-
-pub(crate) fn byte(line: &[u8], at: usize) -> u8
-    ensures { λ r. ⌜ r ≡ getD (now (line .entry)) at 0 ⌝ }
-{
-    if at < line.len() { line[at] } else { 0 }
-}
 
 // 1 to 16, or 0.
 pub(crate) fn kind(x: u8) -> u8
@@ -66,22 +55,13 @@ pub(crate) fn group(x: u8) -> u8
     }
 }
 
-// 0 to 9, or NO_DIGIT.
-pub(crate) fn digit(x: u8) -> u8
-    ensures { λ r. ⌜ (r ≡ digitOf x) × (r ≤ 10) ⌝ }
-{
-    match x {
-        b'0'..=b'9' => x - b'0',
-        _ => NO_DIGIT,
-    }
-}
-
 // Whether x stands behind a place, between two spaces.
 pub(crate) fn marked(line: &[u8], at: usize, x: u8) -> bool
     requires { ⌜ at ≤ longest ⌝ }
     ensures { λ r. ⌜ r ≡ markAt (now (line .entry)) at x ⌝ }
 {
-    (byte(line, at) == b' ') & ((byte(line, at + 1) == x) & (byte(line, at + 2) == b' '))
+    (ascii::byte(line, at) == b' ')
+        & ((ascii::byte(line, at + 1) == x) & (ascii::byte(line, at + 2) == b' '))
 }
 
 // How many of the two digits d and e belong to m: 0 where there is no m.
@@ -106,7 +86,10 @@ pub(crate) fn number_width(line: &[u8], at: usize) -> usize
     requires { ⌜ at ≤ longest ⌝ }
     ensures { λ r. ⌜ (r ≡ numberWidth (now (line .entry)) at) × (r ≤ 2) ⌝ }
 {
-    width(digit(byte(line, at)), digit(byte(line, at + 1)))
+    width(
+        ascii::digit(ascii::byte(line, at)),
+        ascii::digit(ascii::byte(line, at + 1)),
+    )
 }
 
 // The number m at a place that has one.
@@ -114,5 +97,8 @@ pub(crate) fn number_at(line: &[u8], at: usize) -> u8
     requires { ⌜ at ≤ longest ⌝ }
     ensures { λ r. ⌜ r ≡ numberAt (now (line .entry)) at ⌝ }
 {
-    number(digit(byte(line, at)), digit(byte(line, at + 1)))
+    number(
+        ascii::digit(ascii::byte(line, at)),
+        ascii::digit(ascii::byte(line, at + 1)),
+    )
 }

@@ -28,10 +28,10 @@ fn has_price(line: &[u8], at: usize) -> bool
     requires { ⌜ at ≤ longest ⌝ }
     ensures { λ r. ⌜ r ≡ hasPrice (now (line .entry)) at ⌝ }
 {
-    let w = letters::variable(letters::byte(line, at + 3));
-    let k = letters::kind(letters::byte(line, at + 5));
-    let y = letters::name(letters::byte(line, at + 7));
-    let spaced = (letters::byte(line, at + 4) == b' ') & (letters::byte(line, at + 6) == b' ');
+    let w = letters::variable(ascii::byte(line, at + 3));
+    let k = letters::kind(ascii::byte(line, at + 5));
+    let y = letters::name(ascii::byte(line, at + 7));
+    let spaced = (ascii::byte(line, at + 4) == b' ') & (ascii::byte(line, at + 6) == b' ');
     letters::marked(line, at, b'<')
         & ((w < VARIABLE_COUNT) & ((1 <= k) & ((y <= STAR) & (!(w == y) & spaced))))
 }
@@ -41,11 +41,11 @@ fn has_condition(line: &[u8], at: usize) -> bool
     requires { ⌜ at ≤ longest ⌝ }
     ensures { λ r. ⌜ r ≡ hasCondition (now (line .entry)) at ⌝ }
 {
-    let x = letters::byte(line, at + 3);
+    let x = ascii::byte(line, at + 3);
     let member = letters::marked(line, at, b'?') & (1 <= letters::group(x));
     let alike = letters::marked(line, at, b'=') & (letters::name(x) <= STAR);
-    let z = letters::name(letters::byte(line, at + 5));
-    (member | alike) & ((letters::byte(line, at + 4) == b' ') & (z <= STAR))
+    let z = letters::name(ascii::byte(line, at + 5));
+    (member | alike) & ((ascii::byte(line, at + 4) == b' ') & (z <= STAR))
 }
 
 // How many prices stand one behind the other at a place, at most four; conditions likewise.
@@ -79,11 +79,11 @@ fn has_head(line: &[u8]) -> bool
 {
     let n = letters::number_width(line, 2);
     let p = 2 + n;
-    let k = letters::kind(letters::byte(line, p + 1));
-    let v = letters::variable(letters::byte(line, p + 3));
-    let headed = (letters::byte(line, p + 2) == b' ') & (v < VARIABLE_COUNT);
-    (letters::byte(line, 1) == b' ')
-        & ((1 <= n) & ((letters::byte(line, p) == b' ') & ((1 <= k) & headed)))
+    let k = letters::kind(ascii::byte(line, p + 1));
+    let v = letters::variable(ascii::byte(line, p + 3));
+    let headed = (ascii::byte(line, p + 2) == b' ') & (v < VARIABLE_COUNT);
+    (ascii::byte(line, 1) == b' ')
+        & ((1 <= n) & ((ascii::byte(line, p) == b' ') & ((1 <= k) & headed)))
 }
 
 fn has_form(line: &[u8]) -> bool
@@ -114,8 +114,8 @@ fn put_head(row: &mut [u8; 32], line: &[u8], prices: usize, conditions: usize)
 {
     let p = 2 + letters::number_width(line, 2);
     row[0] = letters::number_at(line, 2);
-    row[1] = letters::kind(letters::byte(line, p + 1));
-    row[2] = letters::variable(letters::byte(line, p + 3));
+    row[1] = letters::kind(ascii::byte(line, p + 1));
+    row[2] = letters::variable(ascii::byte(line, p + 3));
     row[3] = prices as u8;
     row[4] = conditions as u8;
 }
@@ -127,9 +127,9 @@ fn put_prices(row: &mut [u8; 32], line: &[u8], at: usize, n: usize)
 {
     for i in 0..n {
         let p = at + i * PRICE_WIDTH;
-        row[5 + i * 3] = letters::variable(letters::byte(line, p + 3));
-        row[6 + i * 3] = letters::kind(letters::byte(line, p + 5));
-        row[7 + i * 3] = letters::name(letters::byte(line, p + 7));
+        row[5 + i * 3] = letters::variable(ascii::byte(line, p + 3));
+        row[6 + i * 3] = letters::kind(ascii::byte(line, p + 5));
+        row[7 + i * 3] = letters::name(ascii::byte(line, p + 7));
     }
 }
 
@@ -140,9 +140,9 @@ fn put_conditions(row: &mut [u8; 32], line: &[u8], at: usize, n: usize)
 {
     for i in 0..n {
         let p = at + i * CONDITION_WIDTH;
-        row[17 + i * 3] = asked_group(letters::byte(line, p + 1), letters::byte(line, p + 3));
-        row[18 + i * 3] = letters::name(letters::byte(line, p + 3));
-        row[19 + i * 3] = letters::name(letters::byte(line, p + 5));
+        row[17 + i * 3] = asked_group(ascii::byte(line, p + 1), ascii::byte(line, p + 3));
+        row[18 + i * 3] = letters::name(ascii::byte(line, p + 3));
+        row[19 + i * 3] = letters::name(ascii::byte(line, p + 5));
     }
 }
 

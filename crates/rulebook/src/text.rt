@@ -1,33 +1,17 @@
-// A text's lines: where one ends, and what it is.
+// A text's lines, each up to its LF, and what a line is.
 use crate::cards;
 use crate::groups;
-use crate::letters;
 use crate::rules;
 use answers::Answer;
 ghost use mathlib.Core.Path.{_≡_};
-ghost use Prim.Native.Nat.{_≤_, _+_};
-ghost use lib.ListN.{length, drop};
+ghost use Prim.Native.Nat.{_≤_};
+ghost use lib.ListN.{length};
 ghost use Rattle.model.specs.Limits.{textLimit};
 ghost use Rattle.model.specs.Opening.{opening};
 ghost use Rattle.answers.specs.View.{answerOf};
 ghost use Rattle.rulebook.specs.View.{bookOf};
 ghost use Rattle.rulebook.specs.Reads.{noTables};
-ghost use Rattle.rulebook.specs.Lines.{untilLF, tables, Sized, Taken};
-
-// The place of the first LF from a place on, or the text's length.
-fn line_end(text: &[u8], at: usize) -> usize
-    requires { ⌜ at ≤ length (now text) ⌝ }
-    ensures { λ r. ⌜ (r ≡ at + untilLF (drop at (now (text .entry)))) × (r ≤ length (now (text .entry))) ⌝ }
-{
-    let mut i = at;
-    while i < text.len() {
-        if text[i] == b'\n' {
-            return i;
-        }
-        i += 1;
-    }
-    i
-}
+ghost use Rattle.rulebook.specs.Lines.{tables, Sized, Taken};
 
 // One line, without its LF: the first letter decides its form.
 fn take_line(
@@ -44,7 +28,7 @@ fn take_line(
         (tables (now (cards .entry)) (now (digits .entry)) (now (lengths .entry)) (now (groups .entry)) (now (rules .entry)) (now (rows .entry)))
         (tables (now (cards .exit)) (now (digits .exit)) (now (lengths .exit)) (now (groups .exit)) (now (rules .exit)) (now (rows .exit))) r ⌝ }
 {
-    let x = letters::byte(line, 0);
+    let x = ascii::byte(line, 0);
     match x {
         b'C' => cards::take(line, cards, digits, lengths),
         b'G' => groups::take(line, *cards, groups),
@@ -70,7 +54,7 @@ pub(crate) fn take_lines(
     let mut at = 0;
     let mut line: u32 = 1;
     while at < text.len() {
-        let end = line_end(text, at);
+        let end = ascii::find(text, at, b'\n');
         if end == text.len() {
             return Answer::Refused(answers::NO_FORM, line);
         }

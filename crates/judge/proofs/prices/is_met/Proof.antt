@@ -1,6 +1,5 @@
 -- The transfer counted is transfer j.
 use borrow.Author.Needs.{needs}
-use Prim.Native.Nat.{_-_}
 use Rattle.judge.proofs.prices.is_met.Statement.{statement}
 use Rattle.judge.proofs.prices.is_met.Tie as tie
 

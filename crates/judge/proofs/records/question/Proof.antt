@@ -4,7 +4,7 @@ use native.Mathlib.Omega.{arith}
 use lib.Dec.{eqb}
 use Rattle.model.proofs.Tests.{both-true, within-true}
 use borrow.Author.Tests.{eq-eqb, ne-eqb, not-true, not-false}
-use Prim.Native.Nat.{_-_, _≤_}
+use Prim.Native.Nat.{_≤_}
 use mathlib.Core.Path.{_≡_, sym, _∙_}
 use mathlib.Core.Bool.{true, cond}
 use Rattle.model.specs.Lists.{within}

@@ -1,6 +1,5 @@
 -- The four tests of the question.
 use borrow.Author.Needs.{needs}
-use Prim.Native.Nat.{_-_}
 use Rattle.judge.proofs.transfers.is_proper.Statement.{statement}
 use Rattle.judge.proofs.transfers.is_proper.Tie as tie
 

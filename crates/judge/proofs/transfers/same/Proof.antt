@@ -1,6 +1,5 @@
 -- The flag of the three comparisons is the test of the two transfers.
 use native.Mathlib.Omega.{arith}
-use Prim.Native.Nat.{_-_}
 use mathlib.Core.Path.{refl}
 use Rattle.model.specs.Transfers.{same, eqTransfer}
 use Rattle.judge.proofs.transfers.same.Statement.{statement}

@@ -1,7 +1,6 @@
 -- The head, the prices and the conditions, in this order.
 use borrow.Author.Needs.{needs}
 use borrow.Author.Tests.{eq-eqb, ne-eqb}
-use Prim.Native.Nat.{_-_}
 use Rattle.judge.specs.Rows.{inRule}
 use Rattle.judge.proofs.variables.in_rule.Statement.{statement}
 use Rattle.judge.proofs.variables.in_rule.Tie as tie

@@ -1,6 +1,5 @@
 -- By whether the rule uses the variable.
 use borrow.Author.Needs.{needs}
-use Prim.Native.Nat.{_-_}
 use Rattle.judge.specs.Rows.{variableFits}
 use Rattle.judge.proofs.variables.variable_fits.Statement.{statement}
 use Rattle.judge.proofs.variables.variable_fits.Tie as tie

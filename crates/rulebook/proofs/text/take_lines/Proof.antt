@@ -30,18 +30,18 @@ loop-holds c =
 abbrev tables-at : tie.At-loop Inv-loop μ-loop → Tables
 tables-at c = tables (c .loop .cards) (c .loop .digits) (c .loop .lengths) (c .loop .groups) (c .loop .rules) (c .loop .rows)
 
-abbrev head : tie.After-line-end Inv-loop μ-loop → tie.At-loop Inv-loop μ-loop
+abbrev head : tie.After-find Inv-loop μ-loop → tie.At-loop Inv-loop μ-loop
 head c = c .before .before
 
-turn : (c : tie.After-line-end Inv-loop μ-loop)
-    → Turn (head c .before .before .args .text .now) (head c .loop .at) (head c .loop .line) (c .line-end .result) (tables-at (head c))
-turn c = record { so-far = head c .loop .inv .3; within = c .before .loop-test .taken; ends = c .line-end .ensures .0 }
+turn : (c : tie.After-find Inv-loop μ-loop)
+    → Turn (head c .before .before .args .text .now) (head c .loop .at) (head c .loop .line) (c .find .result) (tables-at (head c))
+turn c = record { so-far = head c .loop .inv .3; within = c .before .loop-test .taken; ends = c .find .ensures .0 }
 
 -- the line has its LF
 abbrev ended : tie.After-take-line Inv-loop μ-loop → tie.Else1 Inv-loop μ-loop
 ended c = c .before .before .before .before .before .before .before .before
 
-has-LF : (c : tie.Else1 Inv-loop μ-loop) → c .before .line-end .result < length (head (c .before) .before .before .args .text .now)
+has-LF : (c : tie.Else1 Inv-loop μ-loop) → c .before .find .result < length (head (c .before) .before .before .args .text .now)
 has-LF c = search needs
 
 -- ---- the needs

@@ -2,8 +2,8 @@
 use borrow.Author.Tests.{le-leb, lt-leb}
 use Rattle.model.specs.Reader.{digitOf}
 use borrow.Author.Needs.{needs}
-use Rattle.rulebook.proofs.letters.digit.Statement.{statement}
-use Rattle.rulebook.proofs.letters.digit.Tie as tie
+use Rattle.ascii.proofs.digit.Statement.{statement}
+use Rattle.ascii.proofs.digit.Tie as tie
 
 returns : tie.Need-returns
 unfolding digitOf
