@@ -6,6 +6,13 @@ pub enum Answer {
     Refused(u8, u32),
 }
 
+// The same, or a holding, which a query tells.
+pub enum Reply {
+    Done,
+    Holding(u32),
+    Refused(u8, u32),
+}
+
 // Opening
 pub const TEXT_TOO_LONG: u8 = 1;
 

@@ -1,8 +1,8 @@
 // All exchanges of one, two and three transfers over 01's book: whether some chain settles each, beside a decider of fairness.
 use crate::fairness;
 use crate::tell;
+use answers::Reply;
 use engine::Engine;
-use engine::Reply;
 ghost use Prim.Native.Nat.{_≤_};
 
 // What the engine says of a proof whose records are chosen up to one of them.

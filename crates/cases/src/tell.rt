@@ -1,6 +1,6 @@
 // What a call answers, printed.
+use answers::Reply;
 use engine::Engine;
-use engine::Reply;
 
 // 01's book.
 pub fn open() -> Engine {

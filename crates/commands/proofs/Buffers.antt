@@ -89,7 +89,7 @@ sets-cons : (b : ℕ) (l : List ℕ) (i : ℕ) (xs : List ℕ) → sets (b ∷ l
 sets-cons b l i [] = refl
 sets-cons b l i (x ∷ xs) = sets-cons b (set l i x) (suc i) xs
 
-sets-over : (xs l : List ℕ) → sets l 0 xs ≡ over xs l
+pub sets-over : (xs l : List ℕ) → sets l 0 xs ≡ over xs l
 sets-over [] l = rw (take-nil (length l))
 sets-over (x ∷ xs) [] = sets-nil 1 xs
 sets-over (x ∷ xs) (b ∷ l) = sets-cons x l 0 xs ∙ rw (sets-over xs l)

@@ -1,10 +1,10 @@
 // Answers printed at the start of a lent buffer, which has room for the longest: how many bytes they are.
 use crate::numbers;
-use engine::Reply;
+use answers::Reply;
 ghost use mathlib.Core.List.{[], _∷_};
 ghost use Prim.Native.Nat.{_≤_};
 ghost use Rattle.model.specs.Lists.{ascii};
-ghost use Rattle.engine.specs.View.{replyOf};
+ghost use Rattle.answers.specs.View.{replyOf};
 ghost use Rattle.commands.specs.Grammar.{decimal, answer, printReply, printBad, printBook};
 ghost use Rattle.commands.specs.View.{Printed};
 ghost use Rattle.commands.specs.Parts.{Put};

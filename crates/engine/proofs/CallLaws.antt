@@ -1,24 +1,28 @@
--- What opening and settling answer and leave, from what reading a text and settling over the holdings promise.
-use mathlib.Core.Path.{_≡_, refl, sym, _∙_}
+-- What opening and the calls answer and leave, from what reading a text and the calls over the holdings promise.
+use mathlib.Core.Path.{_≡_, refl, sym, ap}
 use mathlib.Core.Bool.{Bool, true, false, _&&_, cond}
 use mathlib.Core.List.{List}
-use Prim.Native.Nat.{ℕ}
-use native.Mathlib.Omega.{arith}
-use lib.ListN.{getD, replicate}
+use Prim.Native.Nat.{ℕ, min}
+use lib.ListN.{length, getD, replicate}
 use Rattle.model.specs.Limits.{cardLimit, kindCount}
 use Rattle.model.specs.Lists.{within}
+use Rattle.model.specs.Questions as model
 use Rattle.model.specs.Holdings.{noHoldings}
-use Rattle.model.specs.Calls.{settle}
-use Rattle.model.proofs.Places.{zeros}
+use Rattle.model.specs.Calls.{Call, settle, replyTo, after}
+use Rattle.model.proofs.Places.{zeros, upTo-length}
 use Rattle.answers.specs.declared.Answer.the-variants as answer
+use Rattle.answers.specs.declared.Reply.{Reply}
+use Rattle.answers.specs.declared.Reply.the-variants.{Done, Refused}
 use Rattle.rulebook.specs.declared.Reading.{Reading}
 use Rattle.rulebook.specs.Reads.{Reads}
-use Rattle.settling.specs.View.{spot, stateFrom}
+use Rattle.rulebook.specs.View.{bookFrom, cardView}
+use Rattle.accounts.specs.Answered.{Declares, Answered}
+use Rattle.accounts.specs.View.{spot, stateFrom}
 use Rattle.settling.specs.Settles.{Settles}
+use Rattle.settling.proofs.Outcome.{settled-after}
+use Rattle.engine.specs.View.{bookOf, stateOf}
 use Rattle.engine.specs.Contracts.{Opens, Answers}
 use Rattle.engine.specs.declared.Engine.{Engine}
-use Rattle.engine.specs.declared.Reply.the-variants.{Done, Refused}
-use Rattle.engine.proofs.AccountLaws.{refuses, answers, withHoldings}
 
 -- zeros alone hold nothing
 none-held : stateFrom (replicate 512 0) ≡ noHoldings
@@ -43,6 +47,29 @@ pub opens : (text : List ℕ) (r : Reading) → Reads r text → Opens text (r .
 })
 opens text r h = record { answers = h .answer; book = h .book; state = none-held }
 
+-- ---- the engine with other holdings
+
+abbrev pub withHoldings : Engine → List ℕ → Engine
+withHoldings e h = record { holdings = h; cards = e .cards; digits = e .digits; lengths = e .lengths; groups = e .groups; rules = e .rules; rows = e .rows }
+
+declares : (e : Engine) → Declares (e .cards) (bookOf e)
+unfolding bookFrom
+declares e = upTo-length (cardView (e .digits) (e .lengths)) (min (e .cards) cardLimit)
+
+-- issuing, redeeming and the query
+pub called : (e : Engine) (call : Call) (r : Reply) (h : List ℕ) → length (e .holdings) ≡ 512 → Answered (e .cards) (e .holdings) call r h → Answers e call r (withHoldings e h)
+called e call r h l a = record {
+  answers = a .answers (bookOf e) (declares e);
+  state = a .state (bookOf e) (declares e) l;
+  book = refl;
+  refused = λ k. ap (withHoldings e) (a .refused k);
+}
+
+-- a refused call returns the engine that it was given
+pub refuses : (e : Engine) (call : Call) (n i : ℕ) → replyTo (bookOf e) (stateOf e) call ≡ model.refused n i → Answers e call (Refused n i) e
+unfolding after
+refuses e call n i q = record { answers = sym q; state = rw q; book = refl; refused = λ k. refl }
+
 module _ (e : Engine) (x p : List ℕ) where
   pub settle-refused : (n i : ℕ) (h : List ℕ)
       → Settles (e .cards) (e .digits) (e .groups) (e .rules) (e .rows) (e .holdings) x p (answer.Refused n i) h → Answers e (settle x p) (Refused n i) e
@@ -50,4 +77,9 @@ module _ (e : Engine) (x p : List ℕ) where
 
   pub settle-done : (h : List ℕ)
       → Settles (e .cards) (e .digits) (e .groups) (e .rules) (e .rows) (e .holdings) x p answer.Done h → Answers e (settle x p) Done (withHoldings e h)
-  settle-done h s = answers e (settle x p) h (sym (s .answers (e .lengths))) (λ c k. s .leaves c k ∙ omega arith)
+  settle-done h s = record {
+    answers = s .answers (e .lengths);
+    state = settled-after (e .cards) (e .digits) (e .groups) (e .rules) (e .rows) (e .holdings) x p answer.Done h s (e .lengths);
+    book = refl;
+    refused = λ k. absurd k;
+  }

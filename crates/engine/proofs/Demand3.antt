@@ -21,13 +21,14 @@ use Rattle.model.proofs.Completeness.{Shaped}
 use Rattle.model.proofs.Settling.{only-done}
 use Rattle.model.proofs.Theorems.{shaped}
 use Rattle.model.proofs.Histories.{reply-now, histories, step}
-use Rattle.engine.specs.View.{bookOf, stateOf, replyOf}
+use Rattle.engine.specs.View.{bookOf, stateOf}
 use Rattle.engine.specs.Contracts.{Answers}
 use Rattle.engine.specs.Demand3.{Run, opened, called, NotRefused, Agree, EachCall, SettledFair, SettledMoved, RefusedKept, SettlesNext, Demand3, EveryRun}
 use Rattle.engine.specs.declared.Engine.{Engine}
-use Rattle.engine.specs.declared.Reply.{Reply}
-use Rattle.engine.specs.declared.Reply.the-variants.{Refused}
-use Rattle.engine.proofs.AccountLaws.{refuses}
+use Rattle.answers.specs.View.{replyOf}
+use Rattle.answers.specs.declared.Reply.{Reply}
+use Rattle.answers.specs.declared.Reply.the-variants.{Refused}
+use Rattle.engine.proofs.CallLaws.{refuses}
 
 module _ (text : List ℕ) (shaped : Shaped (opening.bookOf text)) where
   abbrev b : Book

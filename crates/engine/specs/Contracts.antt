@@ -6,11 +6,11 @@ use lib.Dec.{T}
 use Rattle.model.specs.Opening as model
 use Rattle.model.specs.Holdings.{noHoldings}
 use Rattle.model.specs.Calls.{Call, isRefused, replyTo, after}
-use Rattle.answers.specs.View.{answerOf}
+use Rattle.answers.specs.View.{answerOf, replyOf}
 use Rattle.answers.specs.declared.Answer.{Answer}
-use Rattle.engine.specs.View.{bookOf, stateOf, replyOf}
+use Rattle.engine.specs.View.{bookOf, stateOf}
 use Rattle.engine.specs.declared.Engine.{Engine}
-use Rattle.engine.specs.declared.Reply.{Reply}
+use Rattle.answers.specs.declared.Reply.{Reply}
 
 -- opening a text answers and yields
 pub record Opens (text : List ℕ) (answer : Answer) (e : Engine) : Type 0 where

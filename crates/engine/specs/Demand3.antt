@@ -13,11 +13,12 @@ use Rattle.model.specs.Fairness.{Fair, Among}
 use Rattle.model.specs.Holdings.{Covered, MovedExactly, sumTo, total}
 use Rattle.model.specs.Calls.{Call, issue, redeem, query, settle, isSized, isRefused}
 use Rattle.model.specs.History.{History, start, _▸_, issued, redeemed, received, given, notRefused, replyAfter}
+use Rattle.answers.specs.View.{replyOf}
 use Rattle.answers.specs.declared.Answer.{Answer}
-use Rattle.engine.specs.View.{stateOf, replyOf}
+use Rattle.engine.specs.View.{stateOf}
 use Rattle.engine.specs.Contracts.{Opens, Answers}
 use Rattle.engine.specs.declared.Engine.{Engine}
-use Rattle.engine.specs.declared.Reply.{Reply}
+use Rattle.answers.specs.declared.Reply.{Reply}
 
 -- A run of the program: it starts from the engine that an opening yields, and each call gets the engine that the call before it
 -- returned. Each step is what the function's own contract says of it; the replies stand latest first.

@@ -2,15 +2,10 @@
 //
 // Each call takes any engine and any arguments, and returns its answer and the engine afterwards; a refused call returns the engine
 // that it was given.
-ghost use Rattle.model.specs.Calls.{settle};
+ghost use Rattle.model.specs.Calls.{issue, redeem, query, settle};
 ghost use Rattle.engine.specs.Contracts.{Opens, Answers};
-
-mod accounts;
-
-pub use accounts::holding;
-pub use accounts::issue;
-pub use accounts::redeem;
 use answers::Answer;
+use answers::Reply;
 
 // Card m's holding of kind k stands at (m - 1) * 16 + k - 1; the tables are those of rulebook::Tables.
 pub struct Engine {
@@ -26,13 +21,6 @@ pub struct Engine {
 pub struct Opened {
     pub answer: Answer,
     pub engine: Engine,
-}
-
-// What a call answers: done, a holding, or refused with a number and a place.
-pub enum Reply {
-    Done,
-    Holding(u32),
-    Refused(u8, u32),
 }
 
 pub struct Called {
@@ -64,30 +52,59 @@ pub fn open(text: &[u8]) -> Opened
     }
 }
 
+pub fn issue(engine: Engine, card: u32, kind: u32, count: u32) -> Called
+    ensures { λ r. ⌜ Answers engine (issue card kind count) (r .reply) (r .engine) ⌝ }
+{
+    let mut next = engine;
+    let cards = next.cards;
+    let reply = accounts::issue(cards, &mut next.holdings, card, kind, count);
+    Called {
+        reply,
+        engine: next,
+    }
+}
+
+pub fn redeem(engine: Engine, card: u32, kind: u32, count: u32) -> Called
+    ensures { λ r. ⌜ Answers engine (redeem card kind count) (r .reply) (r .engine) ⌝ }
+{
+    let mut next = engine;
+    let cards = next.cards;
+    let reply = accounts::redeem(cards, &mut next.holdings, card, kind, count);
+    Called {
+        reply,
+        engine: next,
+    }
+}
+
+pub fn holding(engine: Engine, card: u32, kind: u32) -> Called
+    ensures { λ r. ⌜ Answers engine (query card kind) (r .reply) (r .engine) ⌝ }
+{
+    let reply = accounts::holding(engine.cards, &engine.holdings, card, kind);
+    Called { reply, engine }
+}
+
 pub fn settle(engine: Engine, exchange: &[u8], proof: &[u8]) -> Called
     ensures { λ r. ⌜ Answers engine (settle (now (exchange .entry)) (now (proof .entry))) (r .reply) (r .engine) ⌝ }
 {
-    let holdings = engine.holdings;
-    let settled = settling::settle(
+    let mut holdings = engine.holdings;
+    let answer = settling::settle(
         engine.cards,
         &engine.digits,
         &engine.groups,
         engine.rules,
         &engine.rows,
-        holdings,
+        &mut holdings,
         exchange,
         proof,
     );
-    let answer = settled.answer;
     match answer {
         Answer::Refused(number, place) => Called {
             reply: Reply::Refused(number, place),
             engine,
         },
         Answer::Done => {
-            let moved = settled.holdings;
             let mut next = engine;
-            next.holdings = moved;
+            next.holdings = holdings;
             Called {
                 reply: Reply::Done,
                 engine: next,

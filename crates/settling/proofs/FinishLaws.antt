@@ -1,5 +1,5 @@
 -- Questions 22 and 23 by what was computed: after the gifts are taken, and after the receipts are added.
-use mathlib.Core.Path.{_≡_, sym, subst}
+use mathlib.Core.Path.{_≡_, refl, sym, subst, _∙_}
 use mathlib.Core.Bool.{true, false}
 use mathlib.Core.List.{List}
 use Prim.Native.Nat.{ℕ, suc, _*_, _/_, _%_, _≤_, _<_, min}
@@ -16,10 +16,10 @@ use Rattle.model.proofs.Tests.{eq-T, bool-ext, every-at, every-in}
 use Rattle.model.proofs.Places.{upTo-length, upTo-at, every-upTo, every-oneTo, in-oneTo}
 use Rattle.model.proofs.Sums.{covered→}
 use Rattle.answers.specs.declared.Answer.the-variants.{Done, Refused}
-use Rattle.settling.specs.View.{Ranged, spot, stateFrom}
+use Rattle.accounts.specs.View.{Ranged, spot, stateFrom}
 use Rattle.settling.specs.Moves.{Coverable, Taken, Brought, Roomy, allLimited}
 use Rattle.settling.specs.Finish.{Judged, Finished}
-use Rattle.settling.proofs.HoldingPlaces.{held-at}
+use Rattle.accounts.proofs.HoldingPlaces.{held-at}
 
 -- ---- the limit, place by place and card by card
 
@@ -76,13 +76,13 @@ module _ (cards : ℕ) (h e : List ℕ) (n : ℕ) (j : Judged cards e n) where
   ended : (h₁ h₂ : List ℕ) → Taken h e h₁ → Brought h₁ e h₂ → (c k : ℕ) → stateFrom h₂ .held c k ≡ settled (stateFrom h) (exchangeOf e) c k
   ended h₁ h₂ t w c k = omega (arith, t .less c k, w .more c k)
 
-  pub not-covered : (h′ : List ℕ) → false ≡ isCovered (stateFrom h) (exchangeOf e) → h′ ≡ h → Finished cards h e (Refused 22 0) h′
-  not-covered h′ c k = record { answers = λ b l. rw (← c); leaves = k }
+  pub not-covered : false ≡ isCovered (stateFrom h) (exchangeOf e) → Finished cards h e (Refused 22 0) h
+  not-covered c = record { answers = λ b l. rw (← c); leaves = refl; size = refl }
 
   -- the gifts taken, a holding passes the limit already
-  pub taken-exceeds : (h₁ h′ : List ℕ) (m : ℕ) → m ≡ min cards cardLimit → true ≡ isCovered (stateFrom h) (exchangeOf e) → Taken h e h₁ → false ≡ allLimited h₁ m → h′ ≡ h
-      → Finished cards h e (Refused 23 0) h′
-  taken-exceeds h₁ h′ m q c t x k = record { answers = λ b l. rw (← c, ends-fails b l); leaves = k }
+  pub taken-exceeds : (h₁ : List ℕ) (m : ℕ) → m ≡ min cards cardLimit → true ≡ isCovered (stateFrom h) (exchangeOf e) → Taken h e h₁ → false ≡ allLimited h₁ m
+      → Finished cards h e (Refused 23 0) h
+  taken-exceeds h₁ m q c t x = record { answers = λ b l. rw (← c, ends-fails b l); leaves = refl; size = refl }
     where
       ends-fails : (b : Book) → length (b .cards) ≡ min cards cardLimit → endsLimited b (stateFrom h) (exchangeOf e) ≡ false
       ends-fails b l =
@@ -96,8 +96,8 @@ module _ (cards : ℕ) (h e : List ℕ) (n : ℕ) (j : Judged cards e n) where
         (λ f. →limited h₂ m (omega arith) (λ c k r u. omega (arith, ended h₁ h₂ t w c k, ends→ b (stateFrom h) e f c k r (omega arith))))
         (λ f. →ends b (stateFrom h) e (omega arith) (λ c k r u. omega (arith, ended h₁ h₂ t w c k, limited-at h₂ m c k f r (omega arith))))
 
-    pub given-exceeds : (h′ : List ℕ) → false ≡ allLimited h₂ m → h′ ≡ h → Finished cards h e (Refused 23 0) h′
-    given-exceeds h′ x k = record { answers = λ b l. rw (← c, ends-is b l, ← x); leaves = k }
+    pub given-exceeds : false ≡ allLimited h₂ m → Finished cards h e (Refused 23 0) h
+    given-exceeds x = record { answers = λ b l. rw (← c, ends-is b l, ← x); leaves = refl; size = refl }
 
-    pub moved : true ≡ allLimited h₂ m → Finished cards h e Done h₂
-    moved x = record { answers = λ b l. rw (← c, ends-is b l, ← x); leaves = ended h₁ h₂ t w }
+    pub moved : length h ≡ 512 → true ≡ allLimited h₂ m → Finished cards h e Done h₂
+    moved long x = record { answers = λ b l. rw (← c, ends-is b l, ← x); leaves = ended h₁ h₂ t w; size = w .long ∙ sym long }

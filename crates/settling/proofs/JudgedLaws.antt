@@ -19,7 +19,7 @@ use Rattle.answers.specs.declared.Answer.{Answer}
 use Rattle.answers.specs.declared.Answer.the-variants.{Done, Refused}
 use Rattle.rulebook.specs.View.{bookFrom, cardView}
 use Rattle.judge.specs.Judges.{Judges}
-use Rattle.settling.specs.View.{Ranged}
+use Rattle.accounts.specs.View.{Ranged}
 use Rattle.settling.specs.Settles.{Settles}
 use Rattle.settling.specs.Finish.{Judged, Finished}
 
@@ -82,7 +82,7 @@ module _ (cards : ℕ) (digits groups : List ℕ) (rules : ℕ) (rows e p : List
   -- judged and refused
   pub judge-refuses : (h : List ℕ) (n i : ℕ) → Judges cards digits groups rules rows e p (Refused n i) → Settles cards digits groups rules rows h e p (Refused n i) h
   unfolding replyTo
-  judge-refuses h n i j = record { answers = λ lengths. rw (← j lengths); leaves = refl }
+  judge-refuses h n i j = record { answers = λ lengths. rw (← j lengths); leaves = refl; size = refl }
 
   -- judged and passed: what the move asks, and what it leaves
   pub judge-passes : Judges cards digits groups rules rows e p Done → Judged cards e (length e / transferSize)
@@ -91,4 +91,4 @@ module _ (cards : ℕ) (digits groups : List ℕ) (rules : ℕ) (rows e p : List
   pub finish-settles : (h : List ℕ) (answer : Answer) (h′ : List ℕ) → Judges cards digits groups rules rows e p Done → Finished cards h e answer h′
       → Settles cards digits groups rules rows h e p answer h′
   unfolding replyTo
-  finish-settles h answer h′ j f = record { answers = λ lengths. f .answers (book lengths) (card-count lengths) ∙ rw (← j lengths); leaves = f .leaves }
+  finish-settles h answer h′ j f = record { answers = λ lengths. f .answers (book lengths) (card-count lengths) ∙ rw (← j lengths); leaves = f .leaves; size = f .size }

@@ -13,9 +13,9 @@ use Rattle.model.specs.Lists.{oneIf, every, upTo}
 use Rattle.model.specs.Transfers.{Transfer, transferAt, exchangeOf}
 use Rattle.model.specs.Holdings.{gives, receives, isCovered}
 use Rattle.model.proofs.Tests.{eqb-same}
-use Rattle.settling.specs.View.{spot, stateFrom}
+use Rattle.accounts.specs.View.{spot, stateFrom}
 use Rattle.settling.specs.Moves.{Proper, Coverable, Taken, Brought, Roomy, allLimited}
-use Rattle.settling.proofs.HoldingPlaces.{held-at, store-cases}
+use Rattle.accounts.proofs.HoldingPlaces.{held-at, store-cases}
 use Rattle.model.proofs.Loops.{every-more, every-stop}
 use Rattle.settling.proofs.Transfers.{firstOf, whole, along-more, along-part, along-few}
 

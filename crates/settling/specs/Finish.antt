@@ -11,7 +11,7 @@ use Rattle.model.specs.Transfers.{transferAt, exchangeOf}
 use Rattle.model.specs.Calls.{lastQuestions}
 use Rattle.answers.specs.View.{answerOf}
 use Rattle.answers.specs.declared.Answer.{Answer}
-use Rattle.settling.specs.View.{stateFrom}
+use Rattle.accounts.specs.View.{stateFrom}
 use Rattle.settling.specs.Settles.{Leaves}
 use Rattle.settling.specs.Moves.{Proper}
 
@@ -23,3 +23,4 @@ pub record Judged (cards : ℕ) (e : List ℕ) (n : ℕ) : Type 0 where
 pub record Finished (cards : ℕ) (h e : List ℕ) (answer : Answer) (h′ : List ℕ) : Type 0 where
   pub answers : (b : Book) → length (b .cards) ≡ min cards cardLimit → answerOf done answer ≡ lastQuestions b (stateFrom h) (exchangeOf e)
   pub leaves : Leaves answer h e h′
+  pub size : length h′ ≡ length h

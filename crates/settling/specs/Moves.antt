@@ -10,7 +10,7 @@ use Rattle.model.specs.Limits.{kindCount, sumLimit, transferSize}
 use Rattle.model.specs.Lists.{every, upTo}
 use Rattle.model.specs.Transfers.{transferAt, exchangeOf}
 use Rattle.model.specs.Holdings.{gives, receives}
-use Rattle.settling.specs.View.{Ranged, stateFrom}
+use Rattle.accounts.specs.View.{Ranged, stateFrom}
 
 -- what questions 12 and 13 have shown of an exchange of n transfers
 pub record Proper (e : List ℕ) (n : ℕ) : Type 0 where

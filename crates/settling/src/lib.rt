@@ -1,7 +1,6 @@
 // Settling over the 512 holdings: an exchange that is judged fair is covered or not, and moves all its tokens or none.
 ghost use mathlib.Core.Path.{_≡_};
 ghost use Prim.Native.Nat.{_≤_, min};
-ghost use Rattle.answers.specs.declared.Answer.the-variants.{Refused};
 ghost use Rattle.settling.specs.Settles.{Settles};
 ghost use Rattle.settling.specs.Finish.{Judged, Finished};
 
@@ -10,12 +9,6 @@ mod moves;
 use answers::Answer;
 
 const CARD_LIMIT: u8 = 32;
-
-// The answer, and the holdings afterwards.
-pub struct Settled {
-    pub answer: Answer,
-    pub holdings: [u32; 512],
-}
 
 // The number of cards, at most 32.
 fn clamp(cards: u8) -> usize
@@ -27,38 +20,35 @@ fn clamp(cards: u8) -> usize
     CARD_LIMIT as usize
 }
 
-fn refuse(number: u8, holdings: [u32; 512]) -> Settled
-    ensures { λ r. ⌜ (r .answer ≡ Refused number 0) × (r .holdings ≡ holdings) ⌝ }
+// A copy, which by its type has 512 numbers; of what is lent a proof cannot tell how many there are.
+fn copied(holdings: &[u32; 512]) -> [u32; 512]
+    ensures { λ r. ⌜ r ≡ now (holdings .entry) ⌝ }
 {
-    Settled {
-        answer: Answer::Refused(number, 0),
-        holdings,
-    }
+    *holdings
 }
 
-// Questions 22 and 23, and the move, of an exchange of n transfers that passes questions 12 to 21.
-fn finish(cards: u8, holdings: [u32; 512], exchange: &[u8], n: usize) -> Settled
+// Questions 22 and 23, and the move, of an exchange of n transfers that passes questions 12 to 21. The holdings are written once,
+// when all is moved.
+fn finish(cards: u8, holdings: &mut [u32; 512], exchange: &[u8], n: usize) -> Answer
     requires { ⌜ Judged cards (now exchange) n ⌝ }
-    ensures { λ r. ⌜ Finished cards holdings (now (exchange .entry)) (r .answer) (r .holdings) ⌝ }
+    ensures { λ r. ⌜ Finished cards (now (holdings .entry)) (now (exchange .entry)) r (now (holdings .exit)) ⌝ }
 {
-    if !moves::covered(&holdings, exchange, n) {
-        return refuse(answers::NOT_COVERED, holdings);
+    if !moves::covered(holdings, exchange, n) {
+        return Answer::Refused(answers::NOT_COVERED, 0);
     }
     let count = clamp(cards);
-    let mut next = holdings;
+    let mut next = copied(holdings);
     moves::take(&mut next, exchange, n);
     // Before the receipts too, so that none overflows: a holding past the limit without them is past it with them.
     if !moves::limited(&next, count) {
-        return refuse(answers::HOLDING_EXCEEDED, holdings);
+        return Answer::Refused(answers::HOLDING_EXCEEDED, 0);
     }
     moves::give(&mut next, exchange, n);
     if !moves::limited(&next, count) {
-        return refuse(answers::HOLDING_EXCEEDED, holdings);
+        return Answer::Refused(answers::HOLDING_EXCEEDED, 0);
     }
-    Settled {
-        answer: Answer::Done,
-        holdings: next,
-    }
+    *holdings = next;
+    Answer::Done
 }
 
 // Questions 12 to 23 of an exchange and its proof, over a rulebook's tables, and the move.
@@ -68,18 +58,15 @@ pub fn settle<'a>(
     groups: &'a [u8; 256],
     rules: u8,
     rows: &'a [u8; 1792],
-    holdings: [u32; 512],
+    holdings: &mut [u32; 512],
     exchange: &[u8],
     proof: &[u8],
-) -> Settled
-    ensures { λ r. ⌜ Settles cards (now (digits .entry)) (now (groups .entry)) rules (now (rows .entry)) holdings (now (exchange .entry)) (now (proof .entry)) (r .answer) (r .holdings) ⌝ }
+) -> Answer
+    ensures { λ r. ⌜ Settles cards (now (digits .entry)) (now (groups .entry)) rules (now (rows .entry)) (now (holdings .entry)) (now (exchange .entry)) (now (proof .entry)) r (now (holdings .exit)) ⌝ }
 {
     let judged = judge::judge(cards, digits, groups, rules, rows, exchange, proof);
     match judged {
-        Answer::Refused(number, place) => Settled {
-            answer: Answer::Refused(number, place),
-            holdings,
-        },
+        Answer::Refused(number, place) => Answer::Refused(number, place),
         Answer::Done => finish(cards, holdings, exchange, exchange.len() / moves::TRANSFER),
     }
 }

@@ -6,7 +6,7 @@ ghost use lib.Dec.{eqb};
 ghost use Rattle.model.specs.Lists.{oneIf};
 ghost use Rattle.model.specs.Transfers.{exchangeOf};
 ghost use Rattle.model.specs.Holdings.{gives, isCovered};
-ghost use Rattle.settling.specs.View.{spot, stateFrom, Ranged};
+ghost use Rattle.accounts.specs.View.{spot, stateFrom, Ranged};
 ghost use Rattle.settling.specs.Moves.{Proper, Coverable, Taken, Brought, Roomy, allLimited};
 
 const KINDS: usize = 16;

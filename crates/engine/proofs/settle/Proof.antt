@@ -1,4 +1,4 @@
--- The answer over the holdings, by cases: a refusal stands with the engine as it was, and what is settled has the holdings moved.
+-- The answer over the lent holdings, by cases: a refusal stands with the engine as it was, and what is settled has the holdings moved.
 use borrow.Author.Needs.{needs}
 use Rattle.engine.proofs.CallLaws.{settle-refused, settle-done}
 use Rattle.engine.proofs.settle.Statement.{statement}
@@ -20,8 +20,8 @@ returns c =
 
 returns-2 : tie.Need-returns-2
 returns-2 c =
-    let settled = c .before .before .before .settle in
-    settle-done _ _ _ _ (rw (c .before .enum-told .given .1) at (settled .ensures))
+    let settled = c .before .before .settle in
+    settle-done _ _ _ _ (rw (c .enum-told .given .1) at (settled .ensures))
 
 pub settle-spec : {M : Type 1} → statement M
 settle-spec = tie.close (tie.spec settle-requires enum-known-answer enum-told returns returns-2)

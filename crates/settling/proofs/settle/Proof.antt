@@ -15,8 +15,8 @@ enum-told c = search needs
 
 finish-requires : tie.Need-finish-requires
 finish-requires c κs =
-    let judged = c .before .before .judge in
-    judge-passes _ _ _ _ _ _ _ (rw (c .enum-told .given .1) at (judged .ensures))
+    let judged = c .before .before .before .judge in
+    judge-passes _ _ _ _ _ _ _ (rw (c .before .enum-told .given .1) at (judged .ensures))
 
 returns : tie.Need-returns
 returns c =
@@ -25,8 +25,8 @@ returns c =
 
 returns-2 : tie.Need-returns-2
 returns-2 c =
-    let judged = c .before .before .before .judge in
-    finish-settles _ _ _ _ _ _ _ _ _ _ (rw (c .before .enum-told .given .1) at (judged .ensures)) (c .finish .ensures)
+    let judged = c .before .before .before .before .judge in
+    finish-settles _ _ _ _ _ _ _ _ _ _ (rw (c .before .before .enum-told .given .1) at (judged .ensures)) (c .finish .ensures)
 
 pub settle-spec : {M : Type 1} → statement M
 settle-spec =

@@ -2,15 +2,21 @@
 use Prim.Native.Nat.{_-_}
 use native.Mathlib.Omega.{arith}
 use borrow.Author.Needs.{needs}
-use Rattle.engine.proofs.AccountLaws.{SumTo, sum-none, sum-more, sum-all}
-use Rattle.engine.proofs.accounts.kind_sum.Statement.{statement}
-use Rattle.engine.proofs.accounts.kind_sum.Tie as tie
+use Rattle.accounts.proofs.AccountLaws.{SumTo, sum-none, sum-more, sum-nothing, sum-all}
+use Rattle.accounts.proofs.kind_sum.Statement.{statement}
+use Rattle.accounts.proofs.kind_sum.Tie as tie
 
 abbrev Inv-loop : tie.InvT-loop
 Inv-loop holdings kind first sum₀ i₀ sum i = SumTo holdings kind sum i
 
 abbrev μ-loop : tie.MeasureT-loop
 μ-loop holdings kind first sum₀ i₀ sum i = 32 - i
+
+returns : tie.Need-returns Inv-loop μ-loop
+returns c = sum-nothing _ _ (λ p q. omega arith)
+
+returns-2 : tie.Need-returns-2 Inv-loop μ-loop
+returns-2 c = sum-nothing _ _ (λ p q. omega arith)
 
 sub-first : tie.Need-sub-first Inv-loop μ-loop
 sub-first c = search needs
@@ -48,8 +54,8 @@ loop-again c =
     let start = at .before in
     sum-more _ _ _ _ _ (at .loop .inv) (omega arith) (omega arith) (omega arith) (c .wide .ensures .0) (c .wide .ensures .1)
 
-returns : tie.Need-returns Inv-loop μ-loop
-returns c = sum-all _ _ _ _ (c .before .loop .inv) (omega arith)
+returns-3 : tie.Need-returns-3 Inv-loop μ-loop
+returns-3 c = sum-all _ _ _ _ (c .before .loop .inv) (omega arith)
 
 pub kind-sum-spec : {M : Type 1} → statement M
 kind-sum-spec =
@@ -57,6 +63,8 @@ kind-sum-spec =
     (tie.spec
     Inv-loop
     μ-loop
+    returns
+    returns-2
     sub-first
     loop-holds
     mul-wide
@@ -68,4 +76,4 @@ kind-sum-spec =
     add-i
     loop-less
     loop-again
-    returns)
+    returns-3)

@@ -11,7 +11,7 @@ use lib.Seq.{getD-set-same, getD-set-other}
 use Rattle.model.specs.Limits.{cardLimit, kindCount}
 use Rattle.model.specs.Lists.{within, oneIf}
 use Rattle.model.proofs.Tests.{T-eq, eq-T, both, eqb-ne, within→, →within}
-use Rattle.settling.specs.View.{Ranged, spot, stateFrom}
+use Rattle.accounts.specs.View.{Ranged, spot, stateFrom}
 
 in-range : (c k : ℕ) → Ranged c k → (within c cardLimit && within k kindCount) ≡ true
 in-range c k r = rw (T-eq (within c cardLimit) (→within c cardLimit (r .c-low) (r .c-high))) (T-eq (within k kindCount) (→within k kindCount (r .k-low) (r .k-high)))

@@ -1,14 +1,14 @@
 -- A refusal is the first of questions 8, 9 and 11; otherwise the count is taken at the card's and kind's place.
 use borrow.Author.Needs.{needs}
-use Rattle.engine.proofs.AccountLaws.{account-met, redeem-unknown, redeem-short, redeem-done}
-use Rattle.engine.proofs.accounts.redeem.Statement.{statement}
-use Rattle.engine.proofs.accounts.redeem.Tie as tie
+use Rattle.accounts.proofs.AccountLaws.{account-met, redeem-unknown, redeem-short, redeem-done}
+use Rattle.accounts.proofs.redeem.Statement.{statement}
+use Rattle.accounts.proofs.redeem.Tie as tie
 
 account-requires : tie.Need-account-requires
 account-requires c κs = search needs
 
 returns : tie.Need-returns
-returns c = let asked = c .before .account in redeem-unknown _ _ _ _ (asked .ensures) (c .if1 .taken) _
+returns c = let asked = c .before .account in redeem-unknown _ _ _ _ _ (asked .ensures) (c .if1 .taken) _
 
 place-requires : tie.Need-place-requires
 place-requires c κs = let asked = c .before .account in account-met _ _ _ _ (asked .ensures) (c .if1 .left) .ranged
@@ -24,22 +24,22 @@ returns-2 c =
     let at = c .before .before .place in
     let tested = c .before .before .before .if1 in
     let asked = c .before .before .before .before .account in
-    redeem-short _ _ _ (account-met _ _ _ _ (asked .ensures) (tested .left)) _ (rw (at .ensures .0) at (c .if2 .taken))
+    redeem-short _ _ _ _ (account-met _ _ _ _ (asked .ensures) (tested .left)) _ (rw (at .ensures .0) at (c .if2 .taken))
 
-mul-next : tie.Need-mul-next
-mul-next c = search needs
+mul-holdings : tie.Need-mul-holdings
+mul-holdings c = search needs
 
-element-copy-out-next : tie.Need-element-copy-out-next
-element-copy-out-next c = search needs
+element-copy-out-holdings : tie.Need-element-copy-out-holdings
+element-copy-out-holdings c = search needs
 
-sub-next : tie.Need-sub-next
-sub-next c = search needs
+sub-holdings : tie.Need-sub-holdings
+sub-holdings c = search needs
 
-mul-next-2 : tie.Need-mul-next-2
-mul-next-2 c = search needs
+mul-holdings-2 : tie.Need-mul-holdings-2
+mul-holdings-2 c = search needs
 
-element-write-next : tie.Need-element-write-next
-element-write-next c = search needs
+element-write-holdings : tie.Need-element-write-holdings
+element-write-holdings c = search needs
 
 returns-3 : tie.Need-returns-3
 returns-3 c =
@@ -48,7 +48,7 @@ returns-3 c =
     let tested = c .before .before .before .before .if1 in
     let asked = c .before .before .before .before .before .account in
     rw (at .ensures .0)
-    (redeem-done _ _ _ (account-met _ _ _ _ (asked .ensures) (tested .left)) _ (search needs) (rw (at .ensures .0) at (short .left)))
+    (redeem-done _ _ _ _ (account-met _ _ _ _ (asked .ensures) (tested .left)) _ (rw (at .ensures .0) at (short .left)))
 
 pub redeem-spec : {M : Type 1} → statement M
 redeem-spec =
@@ -60,9 +60,9 @@ redeem-spec =
     mul-if2
     element-copy-out-if2
     returns-2
-    mul-next
-    element-copy-out-next
-    sub-next
-    mul-next-2
-    element-write-next
+    mul-holdings
+    element-copy-out-holdings
+    sub-holdings
+    mul-holdings-2
+    element-write-holdings
     returns-3)

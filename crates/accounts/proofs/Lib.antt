@@ -1,0 +1,2 @@
+pub mod HoldingPlaces
+pub mod AccountLaws
