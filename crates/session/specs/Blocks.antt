@@ -45,8 +45,3 @@ afterBlock b p (x ∷ xs) = afterBlock b (next b p x) xs
 -- at the input's end the last line is answered
 abbrev pub endSays : Book → Progress → List ℕ
 endSays b p = answersTo b (p .state) (lastLine (p .line))
-
-unfoldable pub blocksSay : Book → Progress → List (List ℕ) → List ℕ
-unfolding blockSays afterBlock answersTo
-blocksSay b p [] = endSays b p
-blocksSay b p (block ∷ blocks) = blockSays b p block ++ blocksSay b (afterBlock b p block) blocks

@@ -1,5 +1,5 @@
 -- What ringswap prints: of book.txt, and of its whole input line by line.
-use mathlib.Core.Bool.{cond}
+use mathlib.Core.Bool.{Bool, true, false, cond}
 use mathlib.Core.List.{List, [], _∷_, _++_}
 use mathlib.Core.Option.{Option, none, some}
 use Prim.Native.Nat.{ℕ}
@@ -49,10 +49,19 @@ answersTo b s (line ∷ lines) = printed b s (commandIn line) ++ answersTo b (he
 
 -- ---- the program
 
--- "It prints `book` cards rules, or the refusal number and line and stops"
+-- "It prints `book` cards rules, or the refusal number and line"
+abbrev pub heading : Answer Book → List ℕ
+heading (ok b) = printBook (length (b .cards)) (length (b .rules))
+heading (refused n i) = printReply (refused n i)
+
+abbrev pub isOpened : Answer Book → Bool
+isOpened (ok b) = true
+isOpened (refused n i) = false
+
+-- ".. and stops; then per command"
 abbrev pub afterOpening : Answer Book → List ℕ → List ℕ
-afterOpening (ok b) input = printBook (length (b .cards)) (length (b .rules)) ++ answersTo b noHoldings (linesOf input)
-afterOpening (refused n i) input = printReply (refused n i)
+afterOpening (ok b) input = heading (ok b) ++ answersTo b noHoldings (linesOf input)
+afterOpening (refused n i) input = heading (refused n i)
 
 -- "A missing `book.txt` prints `bad` and stops"
 abbrev pub output : Option (List ℕ) → List ℕ → List ℕ

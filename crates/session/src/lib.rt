@@ -1,2 +1,143 @@
-// What ringswap prints of its input, and that blocks of it print the same, however it is cut: the definitions are in specs/, the theorem
-// in proofs/. There is no code here yet.
+// A conversation with an engine: a rule text, then blocks of input in, answers out.
+//
+// `begin` answers for the text, `feed` for as much of a block as there is room to answer, `finish` for a last line without LF. However an
+// input is cut into blocks, what is printed is the same (specs/Theorems.antt); reading and writing are the caller's.
+mod blocks;
+mod buffers;
+mod replies;
+
+use answers::Answer;
+use answers::Reply;
+use engine::Engine;
+ghost use mathlib.Core.Path.{_≡_};
+ghost use Prim.Native.Nat.{min};
+ghost use Rattle.commands.specs.View.{Printed};
+ghost use Rattle.engine.specs.View.{bookOf};
+ghost use Rattle.session.specs.Blocks.{endSays};
+ghost use Rattle.session.specs.View.{progressOf};
+ghost use Rattle.session.specs.Contracts.{Begins, Feeds};
+
+const CARD_LIMIT: u8 = 32;
+
+const RULE_LIMIT: u8 = 56;
+
+// No answer is longer.
+const ANSWER_SIZE: usize = 32;
+
+// The engine, and what is kept of the line that has no LF yet.
+pub struct Session {
+    pub engine: Engine,
+    pub line: [u8; 8193],
+    pub size: usize,
+}
+
+// A session, whether its text was opened, and how many bytes were printed.
+pub struct Begun {
+    pub session: Session,
+    pub opened: bool,
+    pub count: usize,
+}
+
+// The session afterwards, how much of the block was taken, and how many bytes were printed.
+pub struct Fed {
+    pub session: Session,
+    pub taken: usize,
+    pub count: usize,
+}
+
+fn at_most(n: u8, limit: u8) -> u8
+    ensures { λ r. ⌜ r ≡ min n limit ⌝ }
+{
+    if n <= limit { n } else { limit }
+}
+
+// A rule text of any bytes: `book` cards rules, or the refusal and its line.
+pub fn begin(text: &[u8], out: &mut [u8; 32]) -> Begun
+    ensures { λ r. ⌜ Begins (now (text .entry)) (now (out .entry)) (now (out .exit)) r ⌝ }
+{
+    let reading = engine::open(text);
+    let answer = reading.answer;
+    let engine = reading.engine;
+    let session = Session {
+        engine,
+        line: [0; 8193],
+        size: 0,
+    };
+    match answer {
+        Answer::Done => {
+            let cards = at_most(engine.cards, CARD_LIMIT);
+            let rules = at_most(engine.rules, RULE_LIMIT);
+            let count = commands::put_book(cards, rules, out);
+            Begun {
+                session,
+                opened: true,
+                count,
+            }
+        }
+        Answer::Refused(number, line) => {
+            let count = commands::put_reply(Reply::Refused(number, line), out);
+            Begun {
+                session,
+                opened: false,
+                count,
+            }
+        }
+    }
+}
+
+// As much of a block as there is room to answer, 32 bytes for each of its bytes.
+pub fn feed(session: Session, block: &[u8], out: &mut [u8]) -> Fed
+    ensures { λ r. ⌜ Feeds session (now (block .entry)) (now (out .entry)) (now (out .exit)) r ⌝ }
+{
+    let taken = buffers::least(block.len(), out.len() / ANSWER_SIZE);
+    let engine = session.engine;
+    let mut holdings = engine.holdings;
+    let mut line = session.line;
+    let size = buffers::least(session.size, buffers::LINE_SIZE);
+    let kept = blocks::answer_block(
+        engine.cards,
+        &engine.digits,
+        &engine.groups,
+        engine.rules,
+        &engine.rows,
+        &mut holdings,
+        &mut line,
+        size,
+        &block[..taken],
+        out,
+    );
+    let mut next = engine;
+    next.holdings = holdings;
+    Fed {
+        session: Session {
+            engine: next,
+            line,
+            size: kept.size,
+        },
+        taken,
+        count: kept.count,
+    }
+}
+
+// The answer to a last line that lacks its LF, if there is one.
+pub fn finish(session: Session, out: &mut [u8; 32]) -> usize
+    ensures { λ r. ⌜ Printed (endSays (bookOf (session .engine)) (progressOf session)) (now (out .entry)) (now (out .exit)) r ⌝ }
+{
+    let size = buffers::least(session.size, buffers::LINE_SIZE);
+    if size == 0 {
+        return 0;
+    }
+    let engine = session.engine;
+    let mut holdings = engine.holdings;
+    let line = session.line;
+    replies::answer(
+        engine.cards,
+        &engine.digits,
+        &engine.groups,
+        engine.rules,
+        &engine.rows,
+        &mut holdings,
+        &line[..size],
+        out,
+    )
+}
