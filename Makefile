@@ -1,11 +1,18 @@
-# Targets: run, test, bench, fmt.
-.PHONY: run test bench fmt
+# Targets: run, test, fuzz, bench, fmt.
+.PHONY: run test fuzz bench fmt
 
+# Proves and builds ringswap, then prints the worked ring.
 run:
-	@echo "make run: nothing to run yet: the program ringswap is not there"
+	@tests/build
+	@cd examples/ring && ../../target/bin/ringswap <input
 
 test:
 	@tests/run
+
+# More transcripts than the tests take, with a new seed.
+fuzz:
+	@tests/build
+	@tests/transcripts "$$(date +%s)" 100000
 
 bench:
 	@echo "make bench: nothing to measure yet: there is no benchmark"
