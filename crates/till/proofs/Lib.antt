@@ -1,0 +1,2 @@
+pub mod HoldingLaws
+pub mod CallLaws
