@@ -1,11 +1,11 @@
 -- The call by its steps: the question that refuses, or the holdings that a settlement moves, written back.
-use mathlib.Core.Path.{_≡_, refl, sym, ap, _∙_}
+use mathlib.Core.Path.{_≡_, sym, _∙_}
 use mathlib.Core.Bool.{true, false}
 use mathlib.Core.List.{List}
 use Prim.Native.Nat.{ℕ, _<_, min}
 use native.Mathlib.Omega.{arith}
 use borrow.Author.Tests.{eq-eqb, ne-eqb}
-use lib.ListN.{length, getD}
+use lib.ListN.{length}
 use lib.Seq.{ext-getD}
 use Rattle.model.specs.Limits.{cardLimit}
 use Rattle.model.specs.Lists.{upTo}

@@ -13,7 +13,7 @@ use lib.ListN.{length, getD, set, length-set}
 use lib.Seq.{getD-set-same, getD-set-other, ext-getD}
 use Rattle.model.specs.Limits.{cardLimit, kindCount, sumLimit}
 use Rattle.model.specs.Lists.{every, oneTo}
-use Rattle.model.specs.Book.{Book, declared}
+use Rattle.model.specs.Book.{declared}
 use Rattle.model.specs.Holdings.{total}
 use Rattle.model.proofs.Tests.{eq-T, T-eq, never-true, either-true, within-true, true-within, or-right, lt-or-ge, every-in}
 use Rattle.model.proofs.Places.{every-oneTo, in-oneTo}

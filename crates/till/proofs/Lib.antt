@@ -1,2 +1,5 @@
 pub mod HoldingLaws
 pub mod CallLaws
+pub mod Numbers
+pub mod Reached
+pub mod Theorems

@@ -1,5 +1,5 @@
 -- `ZeroTo` says up to where the undeclared cards' numbers are zero.
-use Prim.Native.Nat.{_-_, _*_, min}
+use Prim.Native.Nat.{_-_}
 use native.Mathlib.Omega.{arith}
 use borrow.Author.Needs.{needs}
 use Rattle.till.proofs.HoldingLaws.{ZeroTo, zero-none, zero-more, zero-fails, zero-all}

@@ -1,0 +1,120 @@
+-- The proofs of the statements in specs/Theorems.antt.
+use mathlib.Core.Path.{_≡_, refl, sym, ap, _∙_}
+use mathlib.Core.List.{List, [], _∷_}
+use Prim.Native.Nat.{ℕ, _≤_}
+use native.Mathlib.Omega.{arith}
+use borrow.Author.Tests.{eq-eqb}
+use lib.ListN.{length}
+use Rattle.model.specs.Limits.{cardLimit}
+use Rattle.model.specs.Questions as model
+use Rattle.model.specs.Questions.{_⇒_}
+use Rattle.model.specs.Book.{Book}
+use Rattle.model.specs.Opening as opening
+use Rattle.model.specs.Holdings.{State}
+use Rattle.model.specs.Calls.{settle, changed, replyTo}
+use Rattle.model.specs.History.{History}
+use Rattle.model.proofs.Questions.{inOrder-ok, andThen-ok}
+use Rattle.model.proofs.Conservation.{after-ok}
+use Rattle.model.proofs.Facts.{never}
+use Rattle.model.proofs.Settling.{only-done}
+use Rattle.model.proofs.Theorems.{shaped}
+use Rattle.settling.specs.View.{stateFrom}
+use Rattle.engine.specs.View.{bookOf, stateOf}
+use Rattle.engine.specs.View as engine
+use Rattle.engine.specs.Contracts.{Answers}
+use Rattle.engine.specs.Demand3.{Run, opened, called}
+use Rattle.engine.specs.declared.Engine.{Engine}
+use Rattle.engine.specs.declared.Reply.{Reply}
+use Rattle.engine.specs.declared.Reply.the-variants.{Done, Holding, Refused}
+use Rattle.till.specs.Call.{holdingCount, areHoldings, replyOver, replyOf, numberOf}
+use Rattle.till.specs.Tills.{Tills}
+use Rattle.till.specs.Theorems.{ZeroIsDone, Agrees, TillAgrees}
+use Rattle.till.proofs.CallLaws.{numbers-are}
+use Rattle.till.proofs.Numbers.{Positive, one, and-then, opening-positive, settle-positive}
+use Rattle.till.proofs.Reached.{Sound, sound-none, sound-after, empty-zero, limit-sums}
+
+-- ---- 0 is no refusal's number
+
+over-positive : (b : Book) (h x p : List ℕ) → Positive (replyOver b h x p)
+unfolding replyOver
+over-positive b h x p = one (areHoldings b h) 24 0 _ (omega arith) (settle-positive b (stateFrom h) x p)
+
+reply-positive : (text h x p : List ℕ) → Positive (replyOf text h x p)
+unfolding replyOf
+reply-positive text h x p = and-then (opening.opening text) _ (opening-positive text) (λ b. over-positive b h x p)
+
+-- what is not refused is done
+only : (text h x p : List ℕ) (t : model.Told) → replyOf text h x p ≡ model.ok t → t ≡ model.done
+unfolding replyOf replyOver
+only text h x p t q =
+    let o = andThen-ok (opening.opening text) (λ b. replyOver b h x p) t q in
+    only-done (o .0) (stateFrom h) x p t (inOrder-ok ((24 ⇒ areHoldings (o .0) h) ∷ []) 0 (replyTo (o .0) (stateFrom h) (settle x p)) t (o .2) .1)
+
+pub zero-is-done : ZeroIsDone
+zero-is-done text h x p r h′ t = (λ z. go (replyOf text h x p) refl (reply-positive text h x p) (sym (t .answers) ∙ z), λ q. t .answers ∙ ap numberOf q)
+  where
+    go : (m : model.Reply) → replyOf text h x p ≡ m → Positive m → numberOf m ≡ 0 → replyOf text h x p ≡ model.ok model.done
+    go (model.ok u) q l z = q ∙ ap model.ok (only text h x p u q)
+    go (model.refused n i) q l z = absurd (omega (arith, l .number n i refl))
+
+-- ---- the till beside the engine
+
+module _ (text : List ℕ) (b : Book) (o : opening.opening text ≡ model.ok b) where
+  book-is : opening.bookOf text ≡ b
+  unfolding opening.bookOf
+  book-is = rw o
+
+  few : length (b .cards) ≤ cardLimit
+  few = rw book-is at (shaped text .cards≤)
+
+  -- an engine that calls have made
+  record Made (e : Engine) : Type 0 where
+    book : bookOf e ≡ b
+    sound : Sound b (stateOf e)
+
+  made : {calls : History} {rs : List Reply} {e : Engine} → Run text calls rs e → Made e
+  made (opened q) = record { book = q .book ∙ book-is; sound = rw (q .state) (sound-none b) }
+  made (called {e = e} {call = call} run a) =
+      let m = made run in
+      record { book = a .book ∙ m .book; sound = rw (a .state, m .book) (sound-after b few (stateOf e) call (m .sound)) }
+
+  module _ (e : Engine) (m : Made e) (long : length (e .holdings) ≡ holdingCount) (x p : List ℕ) where
+    -- question 24 is met, and the others are the engine's
+    same-reply : replyOf text (e .holdings) x p ≡ replyTo b (stateOf e) (settle x p)
+    unfolding replyOf replyOver
+    same-reply = rw (o, eq-eqb (length (e .holdings)) holdingCount long, empty-zero b (stateOf e) (m .sound), limit-sums b (stateOf e) (m .sound))
+
+    module _ (reply : Reply) (e′ : Engine) (a : Answers e (settle x p) reply e′) (long′ : length (e′ .holdings) ≡ holdingCount) (r : ℕ) (h′ : List ℕ) (t : Tills text (e .holdings) x p r h′) where
+      by-engine : replyOf text (e .holdings) x p ≡ engine.replyOf reply
+      by-engine = same-reply ∙ rw (← m .book) (sym (a .answers))
+
+      same-holdings : (u : model.Reply) → engine.replyOf reply ≡ u → h′ ≡ e′ .holdings
+      same-holdings (model.ok told) q =
+          let z = by-engine ∙ q in
+          let answered = sym (a .answers) ∙ q in
+          (t .leaves ∙ rw z) ∙ sym (numbers-are (e′ .holdings) (changed (stateOf e) (settle x p) .held) long′
+          (λ c k. ap (λ (s : State). s .held c k) (a .state ∙ after-ok (bookOf e) (stateOf e) (settle x p) told answered)))
+      same-holdings (model.refused n i) q =
+          let z = by-engine ∙ q in
+          (t .leaves ∙ rw z) ∙ ap (λ (d : Engine). d .holdings) (sym (a .refused (rw q tt)))
+
+      same-done : (u : Reply) → reply ≡ u → numberOf (engine.replyOf u) ≡ 0 → u ≡ Done
+      same-done Done q z = refl
+      same-done (Holding n) q z =
+          let w = sym (a .answers) ∙ ap engine.replyOf q in
+          let d = only-done (bookOf e) (stateOf e) x p (model.holding n) w in
+          never (cc)
+      same-done (Refused n i) q z =
+          let w = sym (a .answers) ∙ ap engine.replyOf q in
+          absurd (omega (arith, settle-positive (bookOf e) (stateOf e) x p .number n i w))
+
+      agrees : Agrees reply e′ r h′
+      agrees =
+          let n = t .answers ∙ ap numberOf by-engine in record {
+            settles = (λ z. same-done reply refl (sym n ∙ z), λ q. n ∙ ap (λ (u : Reply). numberOf (engine.replyOf u)) q);
+            number = n;
+            holdings = same-holdings (engine.replyOf reply) refl;
+          }
+
+pub till-agrees : TillAgrees
+till-agrees text b o calls rs e run long x p reply e′ a long′ r h′ t = agrees text b o e (made text b o run) long x p reply e′ a long′ r h′ t
