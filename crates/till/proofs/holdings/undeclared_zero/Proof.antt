@@ -28,7 +28,7 @@ returns : tie.Need-returns Inv-loop μ-loop
 returns c =
     let turn = c .before .before in
     let start = turn .before .before .declared-end in
-    zero-fails _ _ _ (start .ensures .0) _ (turn .before .loop .inv .begun) (turn .loop-test .taken) (c .if1 .taken)
+    zero-fails _ _ _ (start .ensures .0) _ (turn .before .loop .inv .begun) (omega arith) (c .if1 .taken)
 
 add-i : tie.Need-add-i Inv-loop μ-loop
 add-i c = search needs
@@ -39,7 +39,7 @@ loop-less c = search needs
 loop-again : tie.Need-loop-again Inv-loop μ-loop
 loop-again c =
     let turn = c .before .before in
-    zero-more _ _ _ (turn .before .loop .inv) (turn .loop-test .taken) (c .if1 .left)
+    zero-more _ _ _ (turn .before .loop .inv) (omega arith) (c .if1 .left)
 
 returns-2 : tie.Need-returns-2 Inv-loop μ-loop
 returns-2 c =
