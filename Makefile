@@ -1,5 +1,5 @@
-# Targets: run, test, fuzz, bench, fmt.
-.PHONY: run test fuzz bench fmt
+# Targets: run, test, fuzz, bench, lib, fmt.
+.PHONY: run test fuzz bench lib fmt
 
 # Proves and builds ringswap, then prints the worked ring.
 run:
@@ -16,6 +16,12 @@ fuzz:
 
 bench:
 	@echo "make bench: nothing to measure yet: there is no benchmark"
+
+# The till host's call for C: include/thawcroft.h and this archive.
+lib:
+	@mkdir -p target
+	@rt staticlib till >target/staticlib.log 2>&1 || { cat target/staticlib.log; exit 1; }
+	@echo "target/staticlib/libtill.a: gcc -Iinclude HOST.c target/staticlib/libtill.a; nothing else to link"
 
 fmt:
 	@rt fmt

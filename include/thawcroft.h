@@ -1,0 +1,69 @@
+/*
+ * The till host's call: a proposed exchange judged by a rule text and settled over lent holdings.
+ *
+ * Link with libtill.a (make lib), which needs nothing but the C library. The archive is for x86-64 Linux.
+ */
+#ifndef THAWCROFT_H
+#define THAWCROFT_H
+
+#include <stddef.h>
+#include <stdint.h>
+
+#ifdef __cplusplus
+extern "C" {
+#endif
+
+/* 32 cards by 16 kinds. Card m's holding of kind k (A is 1, P is 16) stands at (m - 1) * 16 + k - 1. */
+#define THAWCROFT_HOLDING_COUNT 512
+
+/* What the call answers. */
+enum thawcroft_answer {
+    /* Settled: each holding has lost what the card gives and gained what it receives. */
+    THAWCROFT_DONE = 0,
+
+    /* The rule text, its first line that fails. */
+    THAWCROFT_TEXT_TOO_LONG = 1,   /* more than 16,384 bytes */
+    THAWCROFT_NO_FORM = 2,         /* a line has none of the three forms, or no LF */
+    THAWCROFT_TOO_MANY_CARDS = 3,  /* a 33rd card */
+    THAWCROFT_BAD_CARD_NUMBER = 4, /* not 12 to 19 digits, or a wrong check digit */
+    THAWCROFT_CARD_REPEATED = 5,   /* a card that stands above, digit for digit */
+    THAWCROFT_CARD_NOT_ABOVE = 6,  /* a group or a rule of a card that is not declared above */
+    THAWCROFT_TOO_MANY_RULES = 7,  /* a 57th rule */
+
+    /* The holdings. Asked after 1 to 7 and before 12. */
+    THAWCROFT_BAD_HOLDINGS = 24, /* not 512 numbers, an undeclared card's not zero, or a kind's sum over 1,000,000,000 */
+
+    /* The exchange and its proof. */
+    THAWCROFT_EXCHANGE_SIZE = 12,   /* not 3 to 96 bytes, a multiple of 3 */
+    THAWCROFT_BAD_TRANSFER = 13,    /* a transfer without two different declared cards and a kind 1 to 16 */
+    THAWCROFT_PROOF_SIZE = 14,      /* not 12 to 3,060 bytes, a multiple of 12 */
+    THAWCROFT_BAD_CLAIM = 15,       /* a record's transfer is not in the exchange, or claimed earlier in the chain */
+    THAWCROFT_WRONG_RULE = 16,      /* no such rule, or not one with the transfer's giver and kind */
+    THAWCROFT_BAD_CARDS = 17,       /* byte 3 not zero, or wrong cards for the variables */
+    THAWCROFT_BAD_PRICE = 18,       /* a price from the owner, or from a card to itself */
+    THAWCROFT_CONDITION_UNMET = 19, /* a condition does not hold */
+    THAWCROFT_BAD_LINK = 20,        /* next does not end the chain with the last claim, or is no record */
+    THAWCROFT_PRICE_UNPAID = 21,    /* a transfer is asked as a price more often than it occurs */
+    THAWCROFT_NOT_COVERED = 22,     /* a giver does not hold all that it gives */
+    THAWCROFT_HOLDING_EXCEEDED = 23 /* a card would end with over 1,000,000,000; never the answer, since 24 rules it out */
+};
+
+/*
+ * Answers 0, or the number of the first question, in the order 1 to 7, 24, 12 to 23, that is answered no.
+ * On 0 the holdings are rewritten, all 512; on any other answer each of the lent numbers is as it was. No state is kept between
+ * calls, nothing is allocated, and two threads may call it at once with holdings of their own.
+ *
+ * Each slice is a pointer and a length: bytes for text, exchange and proof, numbers for the holdings. The pointer of an empty
+ * slice is not read. The caller sees to it that each pointer has so many elements behind it, that the holdings overlap none of
+ * the other slices, and that nobody changes a slice during the call.
+ */
+uint32_t thawcroft_settle(const uint8_t *text, size_t text_length,
+                          uint32_t *holdings, size_t holding_count,
+                          const uint8_t *exchange, size_t exchange_length,
+                          const uint8_t *proof, size_t proof_length);
+
+#ifdef __cplusplus
+}
+#endif
+
+#endif
