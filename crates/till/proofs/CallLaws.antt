@@ -19,7 +19,7 @@ use Rattle.rulebook.specs.View.{bookFrom, bookOf, cardView}
 use Rattle.rulebook.specs.declared.Tables.{Tables}
 use Rattle.settling.specs.View.{stateFrom}
 use Rattle.settling.specs.Settles.{Settles}
-use Rattle.till.specs.Call.{holdingCount, sumsLimited, replyOver, replyOf, numbersOf}
+use Rattle.till.specs.Call.{holdingCount, sumsLimited, replyOver, tillReply, numbersOf}
 use Rattle.till.specs.Tills.{Tills}
 use Rattle.till.specs.Parts.{UndeclaredZero, SettlesOver}
 use Rattle.till.proofs.HoldingLaws.{cardAt, kindAt, held-place}
@@ -82,10 +82,10 @@ module _ (cards : ℕ) (digits groups : List ℕ) (rules : ℕ) (rows h x p : Li
 
 module _ (text h x p : List ℕ) where
   pub text-refused : (n i : ℕ) → refused n i ≡ opening text → Tills text h x p n h
-  unfolding replyOf
+  unfolding tillReply
   text-refused n i q = record { answers = rw (← q); leaves = rw (← q) }
 
   pub text-read : (t : Tables) (r : ℕ) (h′ : List ℕ) → ok (bookOf t) ≡ opening text
       → SettlesOver (t .cards) (t .digits) (t .groups) (t .rules) (t .rows) h x p r h′ → Tills text h x p r h′
-  unfolding replyOf
+  unfolding tillReply
   text-read t r h′ q s = record { answers = rw (← q) (s .answers (t .lengths)); leaves = rw (← q) (s .leaves (t .lengths)) }

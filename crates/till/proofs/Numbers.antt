@@ -30,15 +30,15 @@ refuses : {A : Type 0} (n i : ℕ) → 1 ≤ n → Positive {A = A} (refused n i
 refuses n i l = record { number = λ m j e. let z : n ≡ m = cc in omega arith }
 
 module _ {A : Type 0} where
-  pub answered : (a : A) → Positive (ok a)
+  answered : (a : A) → Positive (ok a)
   answered a = record { number = λ n i e. never (cc) }
 
   -- a single question
-  pub one : (x : Bool) (n i : ℕ) (rest : Answer A) → 1 ≤ n → Positive rest → Positive (cond x rest (refused n i))
+  one : (x : Bool) (n i : ℕ) (rest : Answer A) → 1 ≤ n → Positive rest → Positive (cond x rest (refused n i))
   one true n i rest l p = p
   one false n i rest l p = refuses n i l
 
-  in-order : (qs : List Question) (i : ℕ) (rest : Answer A) → T (numbered qs) → Positive rest → Positive (inOrder qs i rest)
+  pub in-order : (qs : List Question) (i : ℕ) (rest : Answer A) → T (numbered qs) → Positive rest → Positive (inOrder qs i rest)
   in-order [] i rest h p = p
   in-order (q ∷ qs) i rest h p =
       let w = both (leb 1 (q .number)) (numbered qs) h in

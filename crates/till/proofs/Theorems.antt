@@ -1,13 +1,12 @@
 -- The proofs of the statements in specs/Theorems.antt.
 use mathlib.Core.Path.{_≡_, refl, sym, ap, _∙_}
-use mathlib.Core.List.{List, [], _∷_}
+use mathlib.Core.List.{List}
 use Prim.Native.Nat.{ℕ, _≤_}
 use native.Mathlib.Omega.{arith}
 use borrow.Author.Tests.{eq-eqb}
 use lib.ListN.{length}
 use Rattle.model.specs.Limits.{cardLimit}
 use Rattle.model.specs.Questions as model
-use Rattle.model.specs.Questions.{_⇒_}
 use Rattle.model.specs.Book.{Book}
 use Rattle.model.specs.Opening as opening
 use Rattle.model.specs.Holdings.{State}
@@ -26,34 +25,34 @@ use Rattle.engine.specs.Demand3.{Run, opened, called}
 use Rattle.engine.specs.declared.Engine.{Engine}
 use Rattle.engine.specs.declared.Reply.{Reply}
 use Rattle.engine.specs.declared.Reply.the-variants.{Done, Holding, Refused}
-use Rattle.till.specs.Call.{holdingCount, areHoldings, replyOver, replyOf, numberOf}
+use Rattle.till.specs.Call.{holdingCount, holdingQuestions, replyOver, tillReply, numberOf}
 use Rattle.till.specs.Tills.{Tills}
 use Rattle.till.specs.Theorems.{ZeroIsDone, Agrees, TillAgrees}
 use Rattle.till.proofs.CallLaws.{numbers-are}
-use Rattle.till.proofs.Numbers.{Positive, one, and-then, opening-positive, settle-positive}
+use Rattle.till.proofs.Numbers.{Positive, in-order, and-then, opening-positive, settle-positive}
 use Rattle.till.proofs.Reached.{Sound, sound-none, sound-after, empty-zero, limit-sums}
 
 -- ---- 0 is no refusal's number
 
 over-positive : (b : Book) (h x p : List ℕ) → Positive (replyOver b h x p)
 unfolding replyOver
-over-positive b h x p = one (areHoldings b h) 24 0 _ (omega arith) (settle-positive b (stateFrom h) x p)
+over-positive b h x p = in-order (holdingQuestions b h) 0 _ tt (settle-positive b (stateFrom h) x p)
 
-reply-positive : (text h x p : List ℕ) → Positive (replyOf text h x p)
-unfolding replyOf
+reply-positive : (text h x p : List ℕ) → Positive (tillReply text h x p)
+unfolding tillReply
 reply-positive text h x p = and-then (opening.opening text) _ (opening-positive text) (λ b. over-positive b h x p)
 
 -- what is not refused is done
-only : (text h x p : List ℕ) (t : model.Told) → replyOf text h x p ≡ model.ok t → t ≡ model.done
-unfolding replyOf replyOver
+only : (text h x p : List ℕ) (t : model.Told) → tillReply text h x p ≡ model.ok t → t ≡ model.done
+unfolding tillReply replyOver
 only text h x p t q =
     let o = andThen-ok (opening.opening text) (λ b. replyOver b h x p) t q in
-    only-done (o .0) (stateFrom h) x p t (inOrder-ok ((24 ⇒ areHoldings (o .0) h) ∷ []) 0 (replyTo (o .0) (stateFrom h) (settle x p)) t (o .2) .1)
+    only-done (o .0) (stateFrom h) x p t (inOrder-ok (holdingQuestions (o .0) h) 0 (replyTo (o .0) (stateFrom h) (settle x p)) t (o .2) .1)
 
 pub zero-is-done : ZeroIsDone
-zero-is-done text h x p r h′ t = (λ z. go (replyOf text h x p) refl (reply-positive text h x p) (sym (t .answers) ∙ z), λ q. t .answers ∙ ap numberOf q)
+zero-is-done text h x p r h′ t = (λ z. go (tillReply text h x p) refl (reply-positive text h x p) (sym (t .answers) ∙ z), λ q. t .answers ∙ ap numberOf q)
   where
-    go : (m : model.Reply) → replyOf text h x p ≡ m → Positive m → numberOf m ≡ 0 → replyOf text h x p ≡ model.ok model.done
+    go : (m : model.Reply) → tillReply text h x p ≡ m → Positive m → numberOf m ≡ 0 → tillReply text h x p ≡ model.ok model.done
     go (model.ok u) q l z = q ∙ ap model.ok (only text h x p u q)
     go (model.refused n i) q l z = absurd (omega (arith, l .number n i refl))
 
@@ -80,12 +79,12 @@ module _ (text : List ℕ) (b : Book) (o : opening.opening text ≡ model.ok b) 
 
   module _ (e : Engine) (m : Made e) (long : length (e .holdings) ≡ holdingCount) (x p : List ℕ) where
     -- question 24 is met, and the others are the engine's
-    same-reply : replyOf text (e .holdings) x p ≡ replyTo b (stateOf e) (settle x p)
-    unfolding replyOf replyOver
+    same-reply : tillReply text (e .holdings) x p ≡ replyTo b (stateOf e) (settle x p)
+    unfolding tillReply replyOver
     same-reply = rw (o, eq-eqb (length (e .holdings)) holdingCount long, empty-zero b (stateOf e) (m .sound), limit-sums b (stateOf e) (m .sound))
 
     module _ (reply : Reply) (e′ : Engine) (a : Answers e (settle x p) reply e′) (long′ : length (e′ .holdings) ≡ holdingCount) (r : ℕ) (h′ : List ℕ) (t : Tills text (e .holdings) x p r h′) where
-      by-engine : replyOf text (e .holdings) x p ≡ engine.replyOf reply
+      by-engine : tillReply text (e .holdings) x p ≡ engine.replyOf reply
       by-engine = same-reply ∙ rw (← m .book) (sym (a .answers))
 
       same-holdings : (u : model.Reply) → engine.replyOf reply ≡ u → h′ ≡ e′ .holdings

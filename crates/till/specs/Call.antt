@@ -1,12 +1,12 @@
 -- The till host's call: rule text, holdings, exchange and proof; its questions in order, its answer and the holdings afterwards.
-use mathlib.Core.Bool.{Bool, _&&_, _||_}
+use mathlib.Core.Bool.{Bool, _||_}
 use mathlib.Core.List.{List, [], _∷_}
 use Prim.Native.Nat.{ℕ, suc, _*_, _/_, _%_}
 use lib.Dec.{eqb, leb}
 use lib.ListN.{length}
 use Rattle.model.specs.Limits.{cardLimit, kindCount, sumLimit}
 use Rattle.model.specs.Lists.{every, upTo, oneTo}
-use Rattle.model.specs.Questions.{ok, refused, Reply, _⇒_, inOrder, andThen}
+use Rattle.model.specs.Questions.{ok, refused, Reply, Question, _⇒_, inOrder, andThen}
 use Rattle.model.specs.Book.{Book, declared}
 use Rattle.model.specs.Opening.{opening}
 use Rattle.model.specs.Holdings.{State, total}
@@ -30,19 +30,22 @@ undeclaredZero b s = every (λ c. every (λ k. declared b c || eqb (s .held c k)
 unfoldable pub sumsLimited : State → Bool
 sumsLimited s = every (λ k. leb (total s k) sumLimit) (oneTo kindCount)
 
-abbrev pub areHoldings : Book → List ℕ → Bool
-areHoldings b h = exactCount h && (undeclaredZero b (stateFrom h) && sumsLimited (stateFrom h))
+abbrev pub holdingQuestions : Book → List ℕ → List Question
+holdingQuestions b h =
+    (24 ⇒ exactCount h) ∷
+    (24 ⇒ undeclaredZero b (stateFrom h)) ∷
+    (24 ⇒ sumsLimited (stateFrom h)) ∷ []
 
 -- ---- the answer
 
 -- question 24, then 12 to 23
 unfoldable pub replyOver : Book → List ℕ → List ℕ → List ℕ → Reply
-replyOver b h x p = inOrder ((24 ⇒ areHoldings b h) ∷ []) 0 (replyTo b (stateFrom h) (settle x p))
+replyOver b h x p = inOrder (holdingQuestions b h) 0 (replyTo b (stateFrom h) (settle x p))
 
 -- questions 1 to 7 before them
-unfoldable pub replyOf : List ℕ → List ℕ → List ℕ → List ℕ → Reply
+unfoldable pub tillReply : List ℕ → List ℕ → List ℕ → List ℕ → Reply
 unfolding replyOver
-replyOf text h x p = andThen (opening text) (λ b. replyOver b h x p)
+tillReply text h x p = andThen (opening text) (λ b. replyOver b h x p)
 
 -- "0 or a refusal number, without place"
 abbrev pub numberOf : Reply → ℕ

@@ -15,12 +15,12 @@ use Rattle.engine.specs.Demand3.{Run}
 use Rattle.engine.specs.declared.Engine.{Engine}
 use Rattle.engine.specs.declared.Reply.{Reply}
 use Rattle.engine.specs.declared.Reply.the-variants.{Done}
-use Rattle.till.specs.Call.{holdingCount, replyOf, numberOf}
+use Rattle.till.specs.Call.{holdingCount, tillReply, numberOf}
 use Rattle.till.specs.Tills.{Tills}
 
 -- no refusal has the number 0: the call answers 0 exactly if each question is met
 abbrev pub ZeroIsDone : Type 0
-ZeroIsDone = (text h x p : List ℕ) (r : ℕ) (h′ : List ℕ) → Tills text h x p r h′ → (r ≡ 0) ↔ (replyOf text h x p ≡ ok done)
+ZeroIsDone = (text h x p : List ℕ) (r : ℕ) (h′ : List ℕ) → Tills text h x p r h′ → (r ≡ 0) ↔ (tillReply text h x p ≡ ok done)
 
 -- a till's answer r and holdings h′, beside an engine's reply and the engine that it returned
 pub record Agrees (reply : Reply) (e′ : Engine) (r : ℕ) (h′ : List ℕ) : Type 0 where
