@@ -51,7 +51,7 @@ enum thawcroft_answer {
 /*
  * Answers 0, or the number of the first question, in the order 1 to 7, 24, 12 to 23, that is answered no.
  * On 0 the holdings are rewritten, all 512; on any other answer each of the lent numbers is as it was. No state is kept between
- * calls, nothing is allocated, and two threads may call it at once with holdings of their own.
+ * calls, nothing is allocated (the call takes 11 KB of stack), and two threads may call it at once with holdings of their own.
  *
  * Each slice is a pointer and a length: bytes for text, exchange and proof, numbers for the holdings. The pointer of an empty
  * slice is not read. The caller sees to it that each pointer has so many elements behind it, that the holdings overlap none of
