@@ -1,6 +1,6 @@
 -- What is proved of the till host's call, as named statements. `proofs/Theorems.antt` has a proof of each.
 use mathlib.Core.Path.{_≡_}
-use mathlib.Core.Logic.{_↔_}
+use mathlib.Core.Logic.{_↔_, _≢_}
 use mathlib.Core.List.{List}
 use Prim.Native.Nat.{ℕ}
 use lib.ListN.{length}
@@ -21,6 +21,10 @@ use Rattle.till.specs.Tills.{Tills}
 -- no refusal has the number 0: the call answers 0 exactly if each question is met
 abbrev pub ZeroIsDone : Type 0
 ZeroIsDone = (text h x p : List ℕ) (r : ℕ) (h′ : List ℕ) → Tills text h x p r h′ → (r ≡ 0) ↔ (tillReply text h x p ≡ ok done)
+
+-- question 23 is never the first that is answered no: where 24 is met, no card can pass its kind's sum
+abbrev pub Never23 : Type 0
+Never23 = (text h x p : List ℕ) (r : ℕ) (h′ : List ℕ) → Tills text h x p r h′ → r ≢ 23
 
 -- a till's answer r and holdings h′, beside an engine's reply and the engine that it returned
 pub record Agrees (reply : Reply) (e′ : Engine) (r : ℕ) (h′ : List ℕ) : Type 0 where
