@@ -3,9 +3,8 @@ use mathlib.Core.Path.{_≡_, refl}
 use mathlib.Core.Bool.{Bool, true, false, cond}
 use mathlib.Core.List.{List, [], _∷_, _++_}
 use mathlib.Core.Option.{Option, none, some}
-use Prim.Native.Nat.{ℕ, zero, suc, _+_, _/_, _≤_}
-use native.Mathlib.Omega.{arith}
-use lib.Dec.{T, eqb, leb, leb→le}
+use Prim.Native.Nat.{ℕ, zero, suc, _+_, _/_}
+use lib.Dec.{T, eqb, leb}
 use lib.ListN.{length, replicate}
 use Rattle.model.specs.Limits.{textLimit, transferSize, exchangeLimit, recordSize, proofLimit}
 use Rattle.model.specs.Lists.{within, every, firstFailing}

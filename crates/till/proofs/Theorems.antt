@@ -66,6 +66,8 @@ zero-is-done text h x p r h′ t = (λ z. go (tillReply text h x p) refl (reply-
     go (model.ok u) q l z = q ∙ ap model.ok (only text h x p u q)
     go (model.refused n i) q l z = absurd (omega (arith, within→ n 24 (l .number n i refl) .0))
 
+-- ---- question 23
+
 module _ (text : List ℕ) (b : Book) (o : opening.opening text ≡ model.ok b) where
   book-is : opening.bookOf text ≡ b
   unfolding opening.bookOf
