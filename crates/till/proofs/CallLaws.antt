@@ -17,7 +17,7 @@ use Rattle.model.proofs.Places.{upTo-length, upTo-at}
 use Rattle.answers.specs.declared.Answer.the-variants.{Done, Refused}
 use Rattle.rulebook.specs.View.{bookFrom, bookOf, cardView}
 use Rattle.rulebook.specs.declared.Tables.{Tables}
-use Rattle.settling.specs.View.{stateFrom}
+use Rattle.accounts.specs.View.{stateFrom}
 use Rattle.settling.specs.Settles.{Settles}
 use Rattle.till.specs.Call.{holdingCount, sumsLimited, replyOver, tillReply, numbersOf}
 use Rattle.till.specs.Tills.{Tills}

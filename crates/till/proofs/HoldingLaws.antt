@@ -18,8 +18,8 @@ use Rattle.model.specs.Holdings.{total}
 use Rattle.model.proofs.Tests.{eq-T, T-eq, never-true, either-true, within-true, true-within, or-right, lt-or-ge, every-in}
 use Rattle.model.proofs.Places.{every-oneTo, in-oneTo}
 use Rattle.model.proofs.Loops.{every-more, every-stop}
-use Rattle.settling.specs.View.{Ranged, spot, stateFrom}
-use Rattle.settling.proofs.HoldingPlaces.{held-at}
+use Rattle.accounts.specs.View.{Ranged, spot, stateFrom}
+use Rattle.accounts.proofs.HoldingPlaces.{held-at}
 use Rattle.till.specs.Call.{holdingCount, undeclaredZero, sumsLimited}
 use Rattle.till.specs.Parts.{UndeclaredZero}
 

@@ -24,14 +24,14 @@ use Rattle.model.proofs.Facts.{never}
 use Rattle.model.proofs.Settling as settling
 use Rattle.model.proofs.Settling.{only-done}
 use Rattle.model.proofs.Theorems.{shaped}
-use Rattle.settling.specs.View.{stateFrom}
+use Rattle.accounts.specs.View.{stateFrom}
 use Rattle.engine.specs.View.{bookOf, stateOf}
-use Rattle.engine.specs.View as engine
+use Rattle.answers.specs.View.{replyOf}
 use Rattle.engine.specs.Contracts.{Answers}
 use Rattle.engine.specs.Demand3.{Run, opened, called}
 use Rattle.engine.specs.declared.Engine.{Engine}
-use Rattle.engine.specs.declared.Reply.{Reply}
-use Rattle.engine.specs.declared.Reply.the-variants.{Done, Holding, Refused}
+use Rattle.answers.specs.declared.Reply.{Reply}
+use Rattle.answers.specs.declared.Reply.the-variants.{Done, Holding, Refused}
 use Rattle.till.specs.Call.{holdingCount, exactCount, undeclaredZero, sumsLimited, holdingQuestions, replyOver, tillReply, numberOf}
 use Rattle.till.specs.Tills.{Tills}
 use Rattle.till.specs.Theorems.{ZeroIsDone, Never23, Agrees, TillAgrees}
@@ -129,10 +129,10 @@ module _ (text : List ℕ) (b : Book) (o : opening.opening text ≡ model.ok b) 
     same-reply = rw (o, eq-eqb (length (e .holdings)) holdingCount long, empty-zero b (stateOf e) (m .sound), limit-sums b (stateOf e) (m .sound))
 
     module _ (reply : Reply) (e′ : Engine) (a : Answers e (settle x p) reply e′) (long′ : length (e′ .holdings) ≡ holdingCount) (r : ℕ) (h′ : List ℕ) (t : Tills text (e .holdings) x p r h′) where
-      by-engine : tillReply text (e .holdings) x p ≡ engine.replyOf reply
+      by-engine : tillReply text (e .holdings) x p ≡ replyOf reply
       by-engine = same-reply ∙ rw (← m .book) (sym (a .answers))
 
-      same-holdings : (u : model.Reply) → engine.replyOf reply ≡ u → h′ ≡ e′ .holdings
+      same-holdings : (u : model.Reply) → replyOf reply ≡ u → h′ ≡ e′ .holdings
       same-holdings (model.ok told) q =
           let z = by-engine ∙ q in
           let answered = sym (a .answers) ∙ q in
@@ -142,22 +142,22 @@ module _ (text : List ℕ) (b : Book) (o : opening.opening text ≡ model.ok b) 
           let z = by-engine ∙ q in
           (t .leaves ∙ rw z) ∙ ap (λ (d : Engine). d .holdings) (sym (a .refused (rw q tt)))
 
-      same-done : (u : Reply) → reply ≡ u → numberOf (engine.replyOf u) ≡ 0 → u ≡ Done
+      same-done : (u : Reply) → reply ≡ u → numberOf (replyOf u) ≡ 0 → u ≡ Done
       same-done Done q z = refl
       same-done (Holding n) q z =
-          let w = sym (a .answers) ∙ ap engine.replyOf q in
+          let w = sym (a .answers) ∙ ap replyOf q in
           let d = only-done (bookOf e) (stateOf e) x p (model.holding n) w in
           never (cc)
       same-done (Refused n i) q z =
-          let w = sym (a .answers) ∙ ap engine.replyOf q in
+          let w = sym (a .answers) ∙ ap replyOf q in
           absurd (omega (arith, within→ n 24 (settle-numbered (bookOf e) (stateOf e) x p .number n i w) .0))
 
       agrees : Agrees reply e′ r h′
       agrees =
           let n = t .answers ∙ ap numberOf by-engine in record {
-            settles = (λ z. same-done reply refl (sym n ∙ z), λ q. n ∙ ap (λ (u : Reply). numberOf (engine.replyOf u)) q);
+            settles = (λ z. same-done reply refl (sym n ∙ z), λ q. n ∙ ap (λ (u : Reply). numberOf (replyOf u)) q);
             number = n;
-            holdings = same-holdings (engine.replyOf reply) refl;
+            holdings = same-holdings (replyOf reply) refl;
           }
 
 pub till-agrees : TillAgrees

@@ -11,7 +11,7 @@ use Rattle.model.specs.Book.{Book, declared}
 use Rattle.model.specs.Opening.{opening}
 use Rattle.model.specs.Holdings.{State, total}
 use Rattle.model.specs.Calls.{settle, replyTo, changed}
-use Rattle.settling.specs.View.{stateFrom}
+use Rattle.accounts.specs.View.{stateFrom}
 
 -- ---- question 24
 

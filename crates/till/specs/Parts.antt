@@ -7,7 +7,7 @@ use lib.ListN.{length}
 use Rattle.model.specs.Limits.{cardLimit}
 use Rattle.model.specs.Book.{Book}
 use Rattle.rulebook.specs.View.{bookFrom}
-use Rattle.settling.specs.View.{stateFrom}
+use Rattle.accounts.specs.View.{stateFrom}
 use Rattle.till.specs.Call.{undeclaredZero, replyOver, numberOf, leftBy}
 
 -- the second test of question 24, of any book with so many cards

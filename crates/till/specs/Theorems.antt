@@ -9,12 +9,12 @@ use Rattle.model.specs.Book.{Book}
 use Rattle.model.specs.Opening.{opening}
 use Rattle.model.specs.Calls.{settle}
 use Rattle.model.specs.History.{History}
-use Rattle.engine.specs.View as engine
+use Rattle.answers.specs.View.{replyOf}
 use Rattle.engine.specs.Contracts.{Answers}
 use Rattle.engine.specs.Demand3.{Run}
 use Rattle.engine.specs.declared.Engine.{Engine}
-use Rattle.engine.specs.declared.Reply.{Reply}
-use Rattle.engine.specs.declared.Reply.the-variants.{Done}
+use Rattle.answers.specs.declared.Reply.{Reply}
+use Rattle.answers.specs.declared.Reply.the-variants.{Done}
 use Rattle.till.specs.Call.{holdingCount, tillReply, numberOf}
 use Rattle.till.specs.Tills.{Tills}
 
@@ -30,7 +30,7 @@ Never23 = (text h x p : List ℕ) (r : ℕ) (h′ : List ℕ) → Tills text h x
 pub record Agrees (reply : Reply) (e′ : Engine) (r : ℕ) (h′ : List ℕ) : Type 0 where
   -- 0 exactly where the engine's is done, and else its refusal's number
   pub settles : (r ≡ 0) ↔ (reply ≡ Done)
-  pub number : r ≡ numberOf (engine.replyOf reply)
+  pub number : r ≡ numberOf (replyOf reply)
   -- each of the 512 numbers
   pub holdings : h′ ≡ e′ .holdings
 

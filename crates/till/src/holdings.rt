@@ -2,7 +2,7 @@
 ghost use mathlib.Core.Path.{_≡_};
 ghost use Prim.Native.Nat.{_*_, _≤_, min};
 ghost use lib.ListN.{length};
-ghost use Rattle.settling.specs.View.{stateFrom};
+ghost use Rattle.accounts.specs.View.{stateFrom};
 ghost use Rattle.till.specs.Call.{sumsLimited};
 ghost use Rattle.till.specs.Parts.{UndeclaredZero};
 
@@ -43,7 +43,7 @@ pub(crate) fn sums_limited(holdings: &[u32; 512]) -> bool
     ensures { λ r. ⌜ r ≡ sumsLimited (stateFrom (now (holdings .entry))) ⌝ }
 {
     for i in 0..KIND_COUNT {
-        if SUM_LIMIT < crate::sums::kind_sum(holdings, i + 1) {
+        if SUM_LIMIT < accounts::kind_sum(holdings, i + 1) {
             return false;
         }
     }

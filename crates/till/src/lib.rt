@@ -3,7 +3,6 @@ ghost use Rattle.till.specs.Tills.{Tills};
 ghost use Rattle.till.specs.Parts.{SettlesOver};
 
 mod holdings;
-mod sums;
 
 use answers::Answer;
 
