@@ -1,5 +1,7 @@
 pub mod Slices
 pub mod Paying
+pub mod Listing
+pub mod TransferRow
 pub mod Asking
 pub mod Letters
 pub mod Issuers

@@ -1,10 +1,12 @@
 // An exchange and its proof judged over a rulebook's flat tables: questions 12 to 21 of document 01.
-// Modules: `transfers` asks 12 to 14, `records` 15, 16 and 20, `variables` 17, `prices` 18 and 21, `conditions` 19; `chain` takes the records in turn.
+// Modules: `transfers` asks 12 to 14, `records` 15, 16 and 20, `variables` 17, `prices` 18 and 21, `conditions` 19;
+// `exchange` counts transfers for 21, and `chain` takes the records in turn.
 //
 // The tables come as their parts (rulebook::Tables without the lengths of the cards, which no question needs), so that a caller
 // lends what it has and nothing is copied. Any value of them is taken: counts past their limit are cut to it.
 mod chain;
 mod conditions;
+mod exchange;
 mod limits;
 mod prices;
 mod records;
