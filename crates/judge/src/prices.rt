@@ -1,4 +1,6 @@
 // Question 18, what a price may be, and question 21, how often each transfer is asked as one.
+use crate::exchange::count_in;
+use crate::exchange::read_exchange;
 use crate::limits;
 use crate::tables::at_most;
 use crate::tables::card_of;
@@ -7,14 +9,15 @@ use crate::transfers::same;
 use crate::transfers::transfer_at;
 ghost use mathlib.Core.Path.{_≡_};
 ghost use mathlib.Core.List.{[], _∷_};
-ghost use Prim.Native.Nat.{_<_};
+ghost use Prim.Native.Nat.{_<_, _≤_};
 ghost use lib.Dec.{leb};
+ghost use lib.ListN.{take};
 ghost use Rattle.model.specs.Limits.{priceLimit};
-ghost use Rattle.model.specs.Transfers.{transferAt, exchangeOf, count};
+ghost use Rattle.model.specs.Transfers.{count};
 ghost use Rattle.model.specs.Fairness.{isPayable};
-ghost use Rattle.judge.specs.Parts.{IsRow, IsRecord, Short, transfers, transferOf};
+ghost use Rattle.judge.specs.Parts.{IsRow, IsRecord, Short, transferOf};
 ghost use Rattle.judge.specs.Rows.{priceAt, pricesAt, allPayable};
-ghost use Rattle.judge.specs.Counts.{Room, Asks, isPaid};
+ghost use Rattle.judge.specs.Counts.{transfersOf, Room, Asks, isPaid};
 
 // The transfer that price i of the row asks under the record's cards.
 fn price_at(row: &[u8], rec: &[u8], i: usize) -> Transfer
@@ -52,19 +55,6 @@ pub(crate) fn all_payable(row: &[u8], rec: &[u8]) -> bool
     true
 }
 
-// How often the transfer occurs in the exchange.
-fn occurrences(exchange: &[u8], t: Transfer) -> u8
-    requires { ⌜ Short (now exchange) ⌝ }
-    ensures { λ r. ⌜ r ≡ count (transferOf t) (exchangeOf (now (exchange .entry))) ⌝ }
-{
-    let n = exchange.len() / limits::TRANSFER_SIZE;
-    let mut sum: u8 = 0;
-    for j in 0..n {
-        sum += same(t, transfer_at(exchange, j));
-    }
-    sum
-}
-
 // One more at each transfer that is the given one; whether there is any.
 fn ask(exchange: &[u8], t: Transfer, counts: &mut [u8; 32]) -> bool
     requires { ⌜ (Short (now exchange)) × (Room (now exchange) 1 (now counts)) ⌝ }
@@ -94,12 +84,12 @@ pub(crate) fn ask_prices(exchange: &[u8], row: &[u8], rec: &[u8], counts: &mut [
     all
 }
 
-// Transfer j occurs at least as often as it is asked.
-fn is_met(exchange: &[u8], j: usize, asked: u8) -> bool
-    requires { ⌜ (Short (now exchange)) × (j < transfers (now exchange)) ⌝ }
-    ensures { λ r. ⌜ r ≡ leb asked (count (transferAt (now (exchange .entry)) j) (exchangeOf (now (exchange .entry)))) ⌝ }
+// The transfer stands among the first n of the list at least as often as it is asked.
+fn is_met(list: [Transfer; 32], n: usize, t: Transfer, asked: u8) -> bool
+    requires { ⌜ n ≤ 32 ⌝ }
+    ensures { λ r. ⌜ r ≡ leb asked (count (transferOf t) (transfersOf (take n list))) ⌝ }
 {
-    asked <= occurrences(exchange, transfer_at(exchange, j))
+    asked as usize <= count_in(list, n, t)
 }
 
 // Question 21: no price is missing, and each transfer is asked at most as often as it occurs.
@@ -111,8 +101,10 @@ pub(crate) fn is_paid(exchange: &[u8], counts: &[u8; 32], missing: bool) -> bool
         return false;
     }
     let n = exchange.len() / limits::TRANSFER_SIZE;
+    let list = read_exchange(exchange);
     for j in 0..n {
-        if !is_met(exchange, j, counts[j]) {
+        let t = list[j];
+        if !is_met(list, n, t, counts[j]) {
             return false;
         }
     }
