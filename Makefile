@@ -9,9 +9,10 @@ run:
 test:
 	@tests/run
 
-# More transcripts than the tests take, with a new seed.
-fuzz:
+# More transcripts and till calls than the tests take, with a new seed.
+fuzz: lib
 	@tests/build
+	@tests/till/run "$$(date +%s)" 1000000
 	@tests/transcripts "$$(date +%s)" 100000
 
 bench:

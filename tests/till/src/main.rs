@@ -1,0 +1,179 @@
+//! Sets the till's library beside the second engine, call by call: the answer, every number of the
+//! holdings, and what stands around the four buffers.
+
+#![forbid(unsafe_code)]
+
+mod room;
+
+use reference::random::Random;
+use reference::till;
+use room::Room;
+use std::fmt::Write;
+use std::process::ExitCode;
+use std::thread;
+use till_host::cases::Case;
+
+/// What stands around bytes and around numbers.
+const BYTE: u8 = 0xa5;
+const NUMBER: u32 = 0xa5a5_a5a5;
+/// Two threads may call at once, so two do.
+const THREADS: u64 = 2;
+/// The largest answer.
+const LAST: usize = 24;
+/// What a run must meet. 23 is no answer of this call: 24 rules it out.
+const EXPECTED: [&[usize]; 3] = [
+    &[0, 1, 2, 3, 4, 5, 6, 7],
+    &[24],
+    &[12, 13, 14, 15, 16, 17, 18, 19, 20, 21, 22],
+];
+
+fn main() -> ExitCode {
+    let arguments: Vec<String> = std::env::args().skip(1).collect();
+    let [seed, count] = arguments.as_slice() else {
+        return usage();
+    };
+    let (Ok(seed), Ok(count)) = (seed.parse(), count.parse()) else {
+        return usage();
+    };
+    match run(seed, count) {
+        Err(report) => {
+            println!("{report}");
+            ExitCode::FAILURE
+        }
+        Ok(tally) => {
+            println!("{}", tally.table());
+            match tally.complaint() {
+                // Too few calls meet some answers by chance alone.
+                Some(complaint) if count > 0 => {
+                    println!("{complaint}");
+                    ExitCode::FAILURE
+                }
+                _ => ExitCode::SUCCESS,
+            }
+        }
+    }
+}
+
+fn usage() -> ExitCode {
+    eprintln!("usage: till-host SEED COUNT");
+    ExitCode::from(2)
+}
+
+/// How often each answer was given.
+#[derive(Default)]
+struct Tally([u64; LAST + 1]);
+
+impl Tally {
+    fn add(&mut self, other: &Tally) {
+        for (count, more) in self.0.iter_mut().zip(other.0) {
+            *count += more;
+        }
+    }
+
+    fn table(&self) -> String {
+        let mut table = format!("{} calls\n", self.0.iter().sum::<u64>());
+        for answer in EXPECTED.concat() {
+            let _ = writeln!(table, "{answer:>5} {:>8}", self.0[answer]);
+        }
+        table.pop();
+        table
+    }
+
+    /// What a run that agreed still left untried, or showed that cannot be.
+    fn complaint(&self) -> Option<String> {
+        let expected = EXPECTED.concat();
+        (0..=LAST).find_map(
+            |answer| match (expected.contains(&answer), self.0[answer]) {
+                (true, 0) => Some(format!("answer {answer} was never given")),
+                (false, 1..) => Some(format!("answer {answer} cannot be given, and was")),
+                _ => None,
+            },
+        )
+    }
+}
+
+/// The cases of every run, then so many random ones; an error is a report to print.
+fn run(seed: u64, count: u64) -> Result<Tally, String> {
+    let mut tally = Tally::default();
+    let random = &mut Random::new(seed, u64::MAX);
+    for (number, case) in Case::every(random).enumerate() {
+        let room = &mut Random::new(seed, number as u64);
+        compare(&case, room, &mut tally)
+            .map_err(|what| report(&format!("seed {seed}, table {number}"), &case, &what))?;
+    }
+    let some = |first: u64| {
+        let mut tally = Tally::default();
+        for number in (first..count).step_by(THREADS as usize) {
+            let random = &mut Random::new(seed, number);
+            let case = Case::some(random);
+            compare(&case, random, &mut tally)
+                .map_err(|what| report(&format!("seed {seed}, case {number}"), &case, &what))?;
+        }
+        Ok::<_, String>(tally)
+    };
+    thread::scope(|scope| {
+        let threads = [0, 1].map(|first| scope.spawn(move || some(first)));
+        for thread in threads {
+            tally.add(&thread.join().map_err(|_| "a thread ended early")??);
+        }
+        Ok(tally)
+    })
+}
+
+/// Makes the call on both sides. What is wrong is an error.
+fn compare(case: &Case, random: &mut Random, tally: &mut Tally) -> Result<(), String> {
+    let mut text = Room::new(&case.text, BYTE, random);
+    let mut holdings = Room::new(&case.holdings, NUMBER, random);
+    let mut exchange = Room::new(&case.exchange, BYTE, random);
+    let mut proof = Room::new(&case.proof, BYTE, random);
+    let answer = till_host::call(text.lent(), holdings.lent(), exchange.lent(), proof.lent());
+
+    let mut expected = case.holdings.clone();
+    let number = till::call(&case.text, &mut expected, &case.exchange, &case.proof);
+    if answer != u32::from(number) {
+        return Err(format!("answer {answer}, expected {number}"));
+    }
+    if number != 0 && expected != case.holdings {
+        return Err("the second engine changed the holdings and refused".into());
+    }
+    if !holdings.holds(&expected, NUMBER) {
+        return Err(format!(
+            "answer {answer}: the holdings, or what is around them"
+        ));
+    }
+    for (name, room, content) in [
+        ("text", text, &case.text),
+        ("exchange", exchange, &case.exchange),
+        ("proof", proof, &case.proof),
+    ] {
+        if !room.holds(content, BYTE) {
+            return Err(format!("answer {answer}: the {name}, or what is around it"));
+        }
+    }
+    tally.0[usize::from(number)] += 1;
+    Ok(())
+}
+
+fn report(name: &str, case: &Case, what: &str) -> String {
+    let mut report = format!("{name}: {what}\ntext:\n");
+    for line in case.text.split_inclusive(|&byte| byte == b'\n') {
+        let _ = writeln!(report, "    {}", line.escape_ascii());
+    }
+    let _ = writeln!(report, "{} holdings:", case.holdings.len());
+    for (slot, held) in case
+        .holdings
+        .iter()
+        .enumerate()
+        .filter(|(_, &held)| held != 0)
+    {
+        let _ = writeln!(
+            report,
+            "    card {} kind {}: {held}",
+            slot / 16 + 1,
+            slot % 16 + 1
+        );
+    }
+    let _ = writeln!(report, "exchange: {:02x?}", case.exchange);
+    let _ = write!(report, "proof: {:02x?}", case.proof);
+    report
+}
