@@ -15,8 +15,12 @@ fuzz: lib
 	@tests/till/run "$$(date +%s)" 1000000
 	@tests/transcripts "$$(date +%s)" 100000
 
-bench:
-	@echo "make bench: nothing to measure yet: there is no benchmark"
+# The till's library and ringswap beside plain Rust: docs/BENCHMARKS.md.
+bench: lib
+	@tests/build
+	@cargo build --offline --quiet --release --manifest-path tests/reference/Cargo.toml
+	@cargo build --offline --quiet --release --manifest-path bench/Cargo.toml
+	@bench/target/release/bench
 
 # The till host's call for C: include/thawcroft.h and this archive.
 lib:
