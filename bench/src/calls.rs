@@ -176,13 +176,6 @@ pub fn bench() -> Result<(), String> {
             times[1],
             times[0] / times[1]
         );
-        let each = [0, 1].map(|side| (many[side] - few[side]) / 24.0);
-        println!(
-            "| each transfer more, ns | {:.0} | {:.0} | {:.2} |",
-            each[0],
-            each[1],
-            each[0] / each[1]
-        );
     }
     println!();
     Ok(())
