@@ -129,37 +129,34 @@ fn every_proof(random: &mut Random) -> impl Iterator<Item = Case> {
     })
 }
 
-/// Each number of the holdings alone, each kind's sum about its limit, and other counts of numbers.
+/// Each number of the holdings changed, each kind's sum about its limit, and other counts of
+/// numbers, over the ring's book, which declares three cards, and the large one, which declares all.
 fn every_holding() -> impl Iterator<Item = Case> {
+    let large = large::accepted(4);
+    let few = Case {
+        text: reference::ring::BOOK.into(),
+        holdings: vec![0; HOLDINGS],
+        ..large.clone()
+    };
     let mut cases = Vec::new();
-    // The ring's book declares three cards, the large one all.
-    for (text, cards) in [
-        (reference::ring::BOOK.as_bytes().to_vec(), 3),
-        (large::accepted(4).text, MAX_CARDS),
-    ] {
-        let mut add = |holdings: Vec<u32>| {
-            cases.push(Case {
-                text: text.clone(),
-                holdings,
-                ..large::accepted(4)
-            });
+    for (case, cards) in [(few, 3), (large, MAX_CARDS)] {
+        let mut add = |change: &dyn Fn(&mut Vec<u32>)| {
+            let mut changed = case.clone();
+            change(&mut changed.holdings);
+            cases.push(changed);
         };
         for slot in 0..HOLDINGS {
             for number in [1, MAX_SUM, MAX_SUM + 1, 1 << 31, u32::MAX] {
-                let mut holdings = vec![0; HOLDINGS];
-                holdings[slot] = number;
-                add(holdings);
+                add(&|holdings| holdings[slot] = number);
             }
         }
         for kind in 1..=KINDS {
             for sum in sums() {
-                let mut holdings = vec![0; HOLDINGS];
-                fill(&mut holdings, cards, kind, sum);
-                add(holdings);
+                add(&|holdings| fill(holdings, cards, kind, sum));
             }
         }
         for count in (0..=HOLDINGS + 1).chain([1_024]) {
-            add(vec![0; count]);
+            add(&|holdings| holdings.resize(count, 0));
         }
     }
     cases.into_iter()
@@ -226,9 +223,9 @@ fn change(holdings: &mut Vec<u32>, cards: usize, exchange: &[u8], random: &mut R
         }
         2 => fill(holdings, cards, kind, random.pick(&sums())),
         3 => {
-            // The last cards that are declared hold it all, among them perhaps a receiver.
-            let (_, last) = holdings.split_at_mut(random.below(cards.max(1)) * KINDS);
-            fill(last, 1, kind, u64::from(MAX_SUM) - random.pick(&[0, 1, 32]));
+            // One card, perhaps a receiver, holds all or nearly all that there may be.
+            let (_, from) = holdings.split_at_mut(random.below(cards.max(1)) * KINDS);
+            fill(from, 1, kind, u64::from(MAX_SUM) - random.pick(&[0, 1, 32]));
         }
         4 | 5 if !given.is_empty() => {
             let held = &mut holdings[random.pick(&given)];

@@ -43,7 +43,7 @@ fn main() -> ExitCode {
         Ok(tally) => {
             println!("{}", tally.table());
             match tally.complaint() {
-                // Too few calls meet some answers by chance alone.
+                // The cases of every run alone do not meet every answer.
                 Some(complaint) if count > 0 => {
                     println!("{complaint}");
                     ExitCode::FAILURE
@@ -112,7 +112,9 @@ fn run(seed: u64, count: u64) -> Result<Tally, String> {
         Ok::<_, String>(tally)
     };
     thread::scope(|scope| {
-        let threads = [0, 1].map(|first| scope.spawn(move || some(first)));
+        let threads: Vec<_> = (0..THREADS)
+            .map(|first| scope.spawn(move || some(first)))
+            .collect();
         for thread in threads {
             tally.add(&thread.join().map_err(|_| "a thread ended early")??);
         }
