@@ -39,6 +39,18 @@ fn rows() -> Vec<Row> {
             large::asked_twice(),
             21,
         ),
+        row(
+            "rules-8",
+            "5 KB of rules, 8 transfers, settled",
+            large::unfilled(8),
+            0,
+        ),
+        row(
+            "rules-32",
+            "5 KB of rules, 32 transfers, settled",
+            large::unfilled(32),
+            0,
+        ),
     ]
 }
 
@@ -168,14 +180,17 @@ pub fn bench() -> Result<(), String> {
         times.push((row.name, [ours, plain]));
     }
     let of = |name| times.iter().find(|(row, _)| *row == name);
-    if let (Some((_, few)), Some((_, many))) = (of("8"), of("32")) {
-        let times = [0, 1].map(|side| many[side] / few[side]);
-        println!(
-            "| from 8 to 32 transfers, times | {:.2} | {:.2} | {:.2} |",
-            times[0],
-            times[1],
-            times[0] / times[1]
-        );
+    for (few, many, about) in [
+        ("8", "32", "16 KB"),
+        ("rules-8", "rules-32", "5 KB of rules"),
+    ] {
+        if let (Some((_, few)), Some((_, many))) = (of(few), of(many)) {
+            let [ours, plain] = [0, 1].map(|side| many[side] / few[side]);
+            println!(
+                "| {about}, from 8 to 32 transfers, times | {ours:.2} | {plain:.2} | {:.2} |",
+                ours / plain
+            );
+        }
     }
     println!();
     Ok(())

@@ -27,7 +27,15 @@ pub fn accepted(transfers: usize) -> Case {
     }
 }
 
-/// The same with one transfer asked twice, which shows only after the last record: 21.
+/// The same over a text that has the cards and rules, and no group lines to fill it up.
+pub fn unfilled(transfers: usize) -> Case {
+    Case {
+        text: needed().into_bytes(),
+        ..accepted(transfers)
+    }
+}
+
+/// All 32 transfers with one of them asked twice, which shows only after the last record: 21.
 pub fn asked_twice() -> Case {
     let mut case = accepted(MAX_CARDS);
     let last = case.proof.len() - 12;
@@ -78,6 +86,16 @@ fn record([next, transfer, rule]: [usize; 3], cards: &[usize]) -> [u8; 12] {
 }
 
 fn text() -> Vec<u8> {
+    let mut text = needed();
+    let left = MAX_TEXT - text.len();
+    // Lines of seven bytes where a line of six would leave a rest.
+    text += &"G 2 10\n".repeat(left % 6);
+    text += &"G 2 1\n".repeat(left / 6 - left % 6);
+    text.into_bytes()
+}
+
+/// All cards, all rules, and the groups that the rules ask for.
+fn needed() -> String {
     let mut text: String = (1..=MAX_CARDS).map(card_line).collect();
     for card in 1..=MAX_CARDS {
         let (given, asked) = (letter(kind(card)), letter(kind(before(card))));
@@ -93,11 +111,7 @@ fn text() -> Vec<u8> {
     for card in 1..=MAX_CARDS {
         text += &format!("G 1 {card}\nG 8 {card}\n");
     }
-    let left = MAX_TEXT - text.len();
-    // Lines of seven bytes where a line of six would leave a rest.
-    text += &"G 2 10\n".repeat(left % 6);
-    text += &"G 2 1\n".repeat(left / 6 - left % 6);
-    text.into_bytes()
+    text
 }
 
 /// A card of 19 digits, all of one issuer, whose other digits are its own.
