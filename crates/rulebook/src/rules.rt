@@ -14,7 +14,7 @@ ghost use Rattle.model.specs.Limits.{ruleLimit, priceLimit, conditionLimit};
 ghost use Rattle.model.specs.Reader.{priceWidth, conditionWidth, hasPrice, hasCondition, hasHead, priceCount, conditionCount, isRuleLine};
 ghost use Rattle.rulebook.specs.View.{rowSize};
 ghost use Rattle.rulebook.specs.Rows.{askedGroup, headCells, priceCells, conditionCells, rowOf};
-ghost use Rattle.rulebook.specs.Lines.{longest, RuleTaken};
+ghost use Rattle.rulebook.specs.Lines.{longest, Parted, RuleTaken};
 
 // The bytes of a price, of a condition, and of ` K v`.
 const PRICE_WIDTH: usize = 8;
@@ -28,6 +28,9 @@ fn has_price(line: &[u8], at: usize) -> bool
     requires { ⌜ at ≤ longest ⌝ }
     ensures { λ r. ⌜ r ≡ hasPrice (now (line .entry)) at ⌝ }
 {
+    if line.len() < at + PRICE_WIDTH {
+        return false;
+    }
     let w = letters::variable(ascii::byte(line, at + 3));
     let k = letters::kind(ascii::byte(line, at + 5));
     let y = letters::name(ascii::byte(line, at + 7));
@@ -41,6 +44,9 @@ fn has_condition(line: &[u8], at: usize) -> bool
     requires { ⌜ at ≤ longest ⌝ }
     ensures { λ r. ⌜ r ≡ hasCondition (now (line .entry)) at ⌝ }
 {
+    if line.len() < at + CONDITION_WIDTH {
+        return false;
+    }
     let x = ascii::byte(line, at + 3);
     let member = letters::marked(line, at, b'?') & (1 <= letters::group(x));
     let alike = letters::marked(line, at, b'=') & (letters::name(x) <= STAR);
@@ -86,12 +92,34 @@ fn has_head(line: &[u8]) -> bool
         & ((1 <= n) & ((ascii::byte(line, p) == b' ') & ((1 <= k) & headed)))
 }
 
-fn has_form(line: &[u8]) -> bool
+// Where a line's prices begin and how many they are, and its conditions likewise: counted once, for the form and for the row.
+struct Parts {
+    body: usize,
+    prices: usize,
+    tail: usize,
+    conditions: usize,
+}
+
+fn parts_of(line: &[u8]) -> Parts
+    ensures { λ r. ⌜ Parted (now (line .entry)) r ⌝ }
+{
+    let body = 2 + letters::number_width(line, 2) + HEAD_WIDTH;
+    let prices = price_count(line, body);
+    let tail = body + prices * PRICE_WIDTH;
+    let conditions = condition_count(line, tail);
+    Parts {
+        body,
+        prices,
+        tail,
+        conditions,
+    }
+}
+
+fn has_form(line: &[u8], parts: Parts) -> bool
+    requires { ⌜ Parted (now line) parts ⌝ }
     ensures { λ r. ⌜ r ≡ isRuleLine (now (line .entry)) ⌝ }
 {
-    let p = 2 + letters::number_width(line, 2) + HEAD_WIDTH;
-    let q = p + price_count(line, p) * PRICE_WIDTH;
-    let end = q + condition_count(line, q) * CONDITION_WIDTH;
+    let end = parts.tail + parts.conditions * CONDITION_WIDTH;
     has_head(line) & (end == line.len())
 }
 
@@ -147,17 +175,14 @@ fn put_conditions(row: &mut [u8; 32], line: &[u8], at: usize, n: usize)
 }
 
 // The row of a line that has the form.
-fn row_of(line: &[u8]) -> [u8; 32]
+fn row_of(line: &[u8], parts: Parts) -> [u8; 32]
+    requires { ⌜ Parted (now line) parts ⌝ }
     ensures { λ r. ⌜ r ≡ rowOf (now (line .entry)) ⌝ }
 {
-    let head_end = 2 + letters::number_width(line, 2) + HEAD_WIDTH;
-    let prices = price_count(line, head_end);
-    let prices_end = head_end + prices * PRICE_WIDTH;
-    let conditions = condition_count(line, prices_end);
     let mut row = [0; 32];
-    put_head(&mut row, line, prices, conditions);
-    put_prices(&mut row, line, head_end, prices);
-    put_conditions(&mut row, line, prices_end, conditions);
+    put_head(&mut row, line, parts.prices, parts.conditions);
+    put_prices(&mut row, line, parts.body, parts.prices);
+    put_conditions(&mut row, line, parts.tail, parts.conditions);
     row
 }
 
@@ -176,7 +201,8 @@ pub(crate) fn take(line: &[u8], cards: u8, rules: &mut u8, rows: &mut [u8; 1792]
     requires { ⌜ (now rules ≤ ruleLimit) × (length (now rows) ≡ 1792) ⌝ }
     ensures { λ r. ⌜ RuleTaken (now (line .entry)) cards (now (rules .entry)) (now (rows .entry)) r (now (rules .exit)) (now (rows .exit)) ⌝ }
 {
-    if !has_form(line) {
+    let parts = parts_of(line);
+    if !has_form(line, parts) {
         return answers::NO_FORM;
     }
     let owner = letters::number_at(line, 2);
@@ -187,7 +213,7 @@ pub(crate) fn take(line: &[u8], cards: u8, rules: &mut u8, rows: &mut [u8; 1792]
     if RULE_LIMIT <= n {
         return answers::TOO_MANY_RULES;
     }
-    let row = row_of(line);
+    let row = row_of(line, parts);
     put_row(rows, n, &row);
     *rules += 1;
     0

@@ -6,19 +6,12 @@ use Rattle.rulebook.proofs.rules.has_form.Tie as tie
 
 returns : tie.Need-returns
 unfolding isRuleLine
-returns c = cc
+returns c = let p = c .before .before .before .before .pre in rw (p .tail, p .conditions) (cc)
 
 pub has-form-spec : {M : Type 1} → statement M
 has-form-spec =
     tie.close
     (tie.spec
-    (λ c κs. search needs)
-    (λ c. search needs)
-    (λ c. search needs)
-    (λ c κs. search needs)
-    (λ c. search needs)
-    (λ c. search needs)
-    (λ c κs. search needs)
     (λ c. search needs)
     (λ c. search needs)
     (λ c κs. search needs)

@@ -10,14 +10,14 @@ use Rattle.rulebook.proofs.rules.take.Statement.{statement}
 use Rattle.rulebook.proofs.rules.take.Tie as tie
 
 -- the line has the form
-formed : (c : tie.Else1) → isRuleLine (c .before .before .before .args .line .now) ≡ true
+formed : (c : tie.Else1) → isRuleLine (c .before .before .before .before .args .line .now) ≡ true
 formed c = sym (c .before .has-form .ensures) ∙ not-false _ (c .if1 .left)
 
 -- the place where the owner is known, before question 6 is met
 abbrev owner : tie.Else2 → tie.After-number-at
 owner c = c .before .before
 
-above : (c : tie.Else2) → numberAt (owner c .before .before .before .before .args .line .now) 2 ≤ owner c .before .before .before .before .args .cards
+above : (c : tie.Else2) → numberAt (owner c .before .before .before .before .before .args .line .now) 2 ≤ owner c .before .before .before .before .before .args .cards
 above c = rw (owner c .number-at .ensures) at (c .if2 .left)
 
 returns : tie.Need-returns
@@ -38,6 +38,7 @@ pub take-spec : {M : Type 1} → statement M
 take-spec =
     tie.close
     (tie.spec
+    (λ c κs. search needs)
     (λ c κs. search needs)
     returns
     (λ c κs. search needs)
