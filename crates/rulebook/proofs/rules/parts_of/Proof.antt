@@ -1,5 +1,4 @@
 -- Each part begins where the one before it ends.
-use native.Mathlib.Omega.{arith}
 use borrow.Author.Needs.{needs}
 use Rattle.rulebook.proofs.rules.parts_of.Statement.{statement}
 use Rattle.rulebook.proofs.rules.parts_of.Tie as tie
