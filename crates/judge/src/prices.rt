@@ -84,11 +84,14 @@ pub(crate) fn ask_prices(exchange: &[u8], row: &[u8], rec: &[u8], counts: &mut [
     all
 }
 
-// The transfer stands among the first n of the list at least as often as it is asked.
+// The transfer stands among the first n of the list at least as often as it is asked; once it does, being one of them.
 fn is_met(list: [Transfer; 32], n: usize, t: Transfer, asked: u8) -> bool
-    requires { ⌜ n ≤ 32 ⌝ }
+    requires { ⌜ (n ≤ 32) × (1 ≤ count (transferOf t) (transfersOf (take n list))) ⌝ }
     ensures { λ r. ⌜ r ≡ leb asked (count (transferOf t) (transfersOf (take n list))) ⌝ }
 {
+    if asked <= 1 {
+        return true;
+    }
     asked as usize <= count_in(list, n, t)
 }
 

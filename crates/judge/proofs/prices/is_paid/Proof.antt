@@ -2,6 +2,7 @@
 use borrow.Author.Needs.{needs}
 use lib.Dec.{leb}
 use borrow.Author.Tests.{not-true, not-false}
+use native.Mathlib.Omega.{arith}
 use Prim.Native.Nat.{_-_, _≤_}
 use mathlib.Core.Path.{_≡_, refl, sym, _∙_, ap}
 use mathlib.Core.Bool.{true}
@@ -11,7 +12,7 @@ use Rattle.model.specs.Transfers.{count, transferAt, exchangeOf}
 use Rattle.judge.specs.Rows.{below}
 use Rattle.judge.specs.Counts.{isPaid}
 use Rattle.model.proofs.Loops.{every-more, every-stop, every-end}
-use Rattle.judge.proofs.Listing.{count≡}
+use Rattle.judge.proofs.Listing.{count≡, count-some}
 use Rattle.judge.proofs.prices.is_paid.Statement.{statement}
 use Rattle.judge.proofs.prices.is_paid.Tie as tie
 
@@ -55,7 +56,10 @@ element-copy-out-is-met : tie.Need-element-copy-out-is-met Inv-loop μ-loop
 element-copy-out-is-met c = search needs
 
 is-met-requires : tie.Need-is-met-requires Inv-loop μ-loop
-is-met-requires c κs = search needs
+is-met-requires c κs =
+    let o = c .before .before .before in
+    let size = o .before .read-exchange .ensures .size in
+    (search needs, count-some _ _ (o .loop .j) (c .before .before .loop-test .taken) (omega arith))
 
 returns-2 : tie.Need-returns-2 Inv-loop μ-loop
 unfolding isPaid
