@@ -4,6 +4,7 @@ pub mod Listing
 pub mod TransferRow
 pub mod Asking
 pub mod Letters
+pub mod Marking
 pub mod Issuers
 pub mod Agreeing
 pub mod Following

@@ -1,10 +1,11 @@
 -- A rule's row of 32 bytes under the cards of a proof record of 12: what questions 17 to 19 ask of the bytes. Loops are proved
 -- against these tests; that they are the model's stands in proofs/Letters.antt and proofs/Issuers.antt.
-use mathlib.Core.Bool.{Bool, not, _&&_, _||_, cond}
+use mathlib.Core.Path.{_≡_}
+use mathlib.Core.Bool.{Bool, false, not, _&&_, _||_, cond}
 use mathlib.Core.List.{List}
-use Prim.Native.Nat.{ℕ, _+_, _-_, _*_, _%_, min}
+use Prim.Native.Nat.{ℕ, _+_, _-_, _*_, _%_, _<_, min}
 use lib.Dec.{eqb}
-use lib.ListN.{getD}
+use lib.ListN.{length, getD}
 use Rattle.model.specs.Limits.{variableCount, priceLimit, conditionLimit, mostDigits, prefixLength}
 use Rattle.model.specs.Lists.{within, every, any, upTo}
 use Rattle.model.specs.Transfers.{Transfer}
@@ -45,6 +46,16 @@ inCondition row v i = (eqb (getD row (17 + i * 3) 0) 0 && eqb v (getD row (18 + 
 
 unfoldable pub inRule : List ℕ → ℕ → Bool
 inRule row v = eqb v (headOf row) || (any (inPrice row v) (below (priceCount row)) || any (inCondition row v) (below (conditionCount row)))
+
+-- the marks of a to h before and after the variables that pass the test are marked
+pub record Marks (p : ℕ → Bool) (before after : List Bool) : Type 0 where
+  pub size : length after ≡ length before
+  pub each : (v : ℕ) → v < variableCount → getD after v false ≡ (getD before v false || p v)
+
+-- marked are the variables that the rule uses
+pub record Used (row : List ℕ) (marks : List Bool) : Type 0 where
+  pub size : length marks ≡ variableCount
+  pub each : (v : ℕ) → v < variableCount → getD marks v false ≡ inRule row v
 
 -- a used variable is one of n declared cards, an unused one is zero
 unfoldable pub variableFits : ℕ → List ℕ → List ℕ → ℕ → Bool

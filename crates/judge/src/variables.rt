@@ -3,77 +3,87 @@ use crate::limits;
 use crate::tables::at_most;
 use crate::tables::is_within;
 ghost use mathlib.Core.Path.{_≡_};
+ghost use mathlib.Core.Bool.{cond};
 ghost use Prim.Native.Nat.{_<_};
+ghost use lib.Dec.{eqb};
+ghost use lib.ListN.{length};
 ghost use Rattle.model.specs.Limits.{priceLimit, conditionLimit, variableCount};
-ghost use Rattle.model.specs.Lists.{any, every};
-ghost use Rattle.judge.specs.Rows.{below, priceCount, conditionCount, inPrice, inCondition, inRule, variableFits, cardsFit};
+ghost use Rattle.model.specs.Lists.{within, any, every};
+ghost use Rattle.judge.specs.Rows.{below, priceCount, conditionCount, inPrice, inCondition, variableFits, cardsFit, Marks, Used};
 ghost use Rattle.judge.specs.Parts.{IsRow, IsRecord};
 
-fn in_price(row: &[u8], v: u8, i: usize) -> bool
-    requires { ⌜ (IsRow (now row)) × (i < priceLimit) ⌝ }
-    ensures { λ r. ⌜ r ≡ inPrice (now (row .entry)) v i ⌝ }
+// The name marked where it is a variable; any other name is the owner's.
+fn mark(marks: &mut [bool; 8], name: u8)
+    requires { ⌜ length (now marks) ≡ variableCount ⌝ }
+    ensures { λ _. ⌜ Marks (λ v. eqb v name) (now (marks .entry)) (now (marks .exit)) ⌝ }
 {
-    let at = i * limits::ENTRY_SIZE;
-    (v == row[limits::PRICE_GIVER + at] % limits::VARIABLE_COUNT)
-        | (v == row[limits::PRICE_RECEIVER + at])
+    if limits::VARIABLE_COUNT <= name {
+        return;
+    }
+    marks[name as usize] = true;
 }
 
-fn in_prices(row: &[u8], v: u8) -> bool
-    requires { ⌜ IsRow (now row) ⌝ }
-    ensures { λ r. ⌜ r ≡ any (inPrice (now (row .entry)) v) (below (priceCount (now (row .entry)))) ⌝ }
+fn mark_price(row: &[u8], i: usize, marks: &mut [bool; 8])
+    requires { ⌜ (IsRow (now row)) × (i < priceLimit) × (length (now marks) ≡ variableCount) ⌝ }
+    ensures { λ _. ⌜ Marks (λ v. inPrice (now (row .entry)) v i) (now (marks .entry)) (now (marks .exit)) ⌝ }
+{
+    let at = i * limits::ENTRY_SIZE;
+    mark(
+        marks,
+        row[limits::PRICE_GIVER + at] % limits::VARIABLE_COUNT,
+    );
+    mark(marks, row[limits::PRICE_RECEIVER + at]);
+}
+
+fn mark_prices(row: &[u8], marks: &mut [bool; 8])
+    requires { ⌜ (IsRow (now row)) × (length (now marks) ≡ variableCount) ⌝ }
+    ensures { λ _. ⌜ Marks (λ v. any (inPrice (now (row .entry)) v) (below (priceCount (now (row .entry))))) (now (marks .entry)) (now (marks .exit)) ⌝ }
 {
     let n = at_most(row[limits::PRICES], limits::PRICE_LIMIT) as usize;
     for i in 0..n {
-        if in_price(row, v, i) {
-            return true;
-        }
+        mark_price(row, i, marks);
     }
-    false
 }
 
-fn in_condition(row: &[u8], v: u8, i: usize) -> bool
-    requires { ⌜ (IsRow (now row)) × (i < conditionLimit) ⌝ }
-    ensures { λ r. ⌜ r ≡ inCondition (now (row .entry)) v i ⌝ }
+fn mark_condition(row: &[u8], i: usize, marks: &mut [bool; 8])
+    requires { ⌜ (IsRow (now row)) × (i < conditionLimit) × (length (now marks) ≡ variableCount) ⌝ }
+    ensures { λ _. ⌜ Marks (λ v. inCondition (now (row .entry)) v i) (now (marks .entry)) (now (marks .exit)) ⌝ }
 {
     let at = i * limits::ENTRY_SIZE;
-    ((row[limits::GROUP + at] == 0) & (v == row[limits::FIRST_NAME + at]))
-        | (v == row[limits::SECOND_NAME + at])
+    mark(marks, row[limits::SECOND_NAME + at]);
+    if row[limits::GROUP + at] != 0 {
+        return;
+    }
+    mark(marks, row[limits::FIRST_NAME + at]);
 }
 
-fn in_conditions(row: &[u8], v: u8) -> bool
-    requires { ⌜ IsRow (now row) ⌝ }
-    ensures { λ r. ⌜ r ≡ any (inCondition (now (row .entry)) v) (below (conditionCount (now (row .entry)))) ⌝ }
+fn mark_conditions(row: &[u8], marks: &mut [bool; 8])
+    requires { ⌜ (IsRow (now row)) × (length (now marks) ≡ variableCount) ⌝ }
+    ensures { λ _. ⌜ Marks (λ v. any (inCondition (now (row .entry)) v) (below (conditionCount (now (row .entry))))) (now (marks .entry)) (now (marks .exit)) ⌝ }
 {
     let n = at_most(row[limits::CONDITIONS], limits::CONDITION_LIMIT) as usize;
     for i in 0..n {
-        if in_condition(row, v, i) {
-            return true;
-        }
+        mark_condition(row, i, marks);
     }
-    false
 }
 
-fn in_rule(row: &[u8], v: u8) -> bool
+// Which of a to h the rule uses.
+fn used(row: &[u8]) -> [bool; 8]
     requires { ⌜ IsRow (now row) ⌝ }
-    ensures { λ r. ⌜ r ≡ inRule (now (row .entry)) v ⌝ }
+    ensures { λ r. ⌜ Used (now (row .entry)) r ⌝ }
 {
-    if v == row[limits::HEAD] % limits::VARIABLE_COUNT {
-        return true;
-    }
-    if in_prices(row, v) {
-        return true;
-    }
-    in_conditions(row, v)
+    let mut marks = [false; 8];
+    mark(&mut marks, row[limits::HEAD] % limits::VARIABLE_COUNT);
+    mark_prices(row, &mut marks);
+    mark_conditions(row, &mut marks);
+    marks
 }
 
 // A used variable has a declared card, an unused one zero.
-fn variable_fits(cards: u8, row: &[u8], rec: &[u8], v: u8) -> bool
-    requires { ⌜ (IsRow (now row)) × (IsRecord (now rec)) × (v < variableCount) ⌝ }
-    ensures { λ r. ⌜ r ≡ variableFits cards (now (row .entry)) (now (rec .entry)) v ⌝ }
+fn card_fits(cards: u8, card: u8, used: bool) -> bool
+    ensures { λ r. ⌜ r ≡ cond used (within card cards) (eqb card 0) ⌝ }
 {
-    let at = limits::CARDS + v as usize;
-    let card = rec[at];
-    if in_rule(row, v) {
+    if used {
         return is_within(card, cards);
     }
     card == 0
@@ -83,8 +93,9 @@ fn variables_fit(cards: u8, row: &[u8], rec: &[u8]) -> bool
     requires { ⌜ (IsRow (now row)) × (IsRecord (now rec)) ⌝ }
     ensures { λ r. ⌜ r ≡ every (variableFits cards (now (row .entry)) (now (rec .entry))) (below variableCount) ⌝ }
 {
-    for v in 0..limits::VARIABLE_COUNT {
-        if !variable_fits(cards, row, rec, v) {
+    let marks = used(row);
+    for v in 0..limits::VARIABLE_COUNT as usize {
+        if !card_fits(cards, rec[limits::CARDS + v], marks[v]) {
             return false;
         }
     }

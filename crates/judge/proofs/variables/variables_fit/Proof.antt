@@ -11,21 +11,46 @@ use Rattle.judge.proofs.variables.variables_fit.Statement.{statement}
 use Rattle.judge.proofs.variables.variables_fit.Tie as tie
 
 abbrev Inv-loop : tie.InvT-loop
-Inv-loop cards row rec v₀ v = (v ≤ 8) × (every (variableFits cards row rec) (below v) ≡ true)
+Inv-loop cards row rec marks v₀ v = (v ≤ 8) × (every (variableFits cards row rec) (below v) ≡ true)
 
 abbrev μ-loop : tie.MeasureT-loop
-μ-loop cards row rec v₀ v = 8 - v
+μ-loop cards row rec marks v₀ v = 8 - v
+
+abbrev loop-of : tie.After-card-fits Inv-loop μ-loop → tie.At-loop Inv-loop μ-loop
+loop-of c = c .before .before .before
+
+abbrev start : tie.At-loop Inv-loop μ-loop → tie.Start Inv-loop μ-loop
+start o = o .before .before .before .before
+
+-- the mark says whether the rule uses the variable
+tested : (c : tie.After-card-fits Inv-loop μ-loop)
+    → let o = loop-of c in let a = start o .args in
+    variableFits (a .cards) (a .row .now) (a .rec .now) (o .loop .v) ≡ c .card-fits .result
+unfolding variableFits
+tested c = let o = loop-of c in rw (← o .before .used .ensures .each (o .loop .v) (c .before .before .loop-test .taken)) (sym (c .card-fits .ensures))
+
+used-requires : tie.Need-used-requires Inv-loop μ-loop
+used-requires c κs = search needs
 
 loop-holds : tie.Need-loop-holds Inv-loop μ-loop
 loop-holds c = search needs
 
-variable-fits-requires : tie.Need-variable-fits-requires Inv-loop μ-loop
-variable-fits-requires c κs = search needs
+add-card-fits : tie.Need-add-card-fits Inv-loop μ-loop
+add-card-fits c = search needs
+
+shared-slice-read-card-fits : tie.Need-shared-slice-read-card-fits Inv-loop μ-loop
+shared-slice-read-card-fits c = search needs
+
+array-read-card-fits : tie.Need-array-read-card-fits Inv-loop μ-loop
+array-read-card-fits c = search needs
+
+card-fits-requires : tie.Need-card-fits-requires Inv-loop μ-loop
+card-fits-requires c κs = search needs
 
 returns : tie.Need-returns Inv-loop μ-loop
 returns c =
-    let o = c .before .before .before .loop in
-    sym (every-stop _ _ (o .v) _ _ (o .inv .1) (sym (c .before .variable-fits .ensures) ∙ not-true _ (c .if1 .taken)) (c .before .before .loop-test .taken) refl)
+    let o = loop-of (c .before) .loop in
+    sym (every-stop _ _ (o .v) _ _ (o .inv .1) (tested (c .before) ∙ not-true _ (c .if1 .taken)) (c .before .before .before .loop-test .taken) refl)
 
 add-v : tie.Need-add-v Inv-loop μ-loop
 add-v c = search needs
@@ -35,8 +60,8 @@ loop-less c = search needs
 
 loop-again : tie.Need-loop-again Inv-loop μ-loop
 loop-again c =
-    let o = c .before .before .before .loop in
-    (search needs, every-more _ _ (o .v) (o .inv .1) (sym (c .before .variable-fits .ensures) ∙ not-false _ (c .if1 .left)))
+    let o = loop-of (c .before) .loop in
+    (search needs, every-more _ _ (o .v) (o .inv .1) (tested (c .before) ∙ not-false _ (c .if1 .left)))
 
 returns-2 : tie.Need-returns-2 Inv-loop μ-loop
 returns-2 c = let o = c .before .loop in sym (every-end _ _ (o .v) _ _ (o .inv .1) (o .inv .0) (c .loop-test .left) refl)
@@ -44,4 +69,5 @@ returns-2 c = let o = c .before .loop in sym (every-end _ _ (o .v) _ _ (o .inv .
 pub variables-fit-spec : {M : Type 1} → statement M
 variables-fit-spec =
     tie.close
-    (tie.spec Inv-loop μ-loop loop-holds variable-fits-requires returns add-v loop-less loop-again returns-2)
+    (tie.spec Inv-loop μ-loop used-requires loop-holds add-card-fits shared-slice-read-card-fits array-read-card-fits
+    card-fits-requires returns add-v loop-less loop-again returns-2)
