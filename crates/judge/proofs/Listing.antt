@@ -11,24 +11,15 @@ use lib.Seq.{take-length, take-suc, getD-set-same, getD-set-other}
 use Rattle.model.specs.Lists.{upTo}
 use Rattle.model.specs.Transfers.{Transfer, same, count, transferAt, exchangeOf}
 use Rattle.model.proofs.Places.{upTo-length, upTo-cong}
-use Rattle.model.proofs.Counting.{same-refl, count-append}
 use Rattle.model.proofs.Loops.{count-more}
 use Rattle.judge.specs.Parts.{transfers, transferOf}
 use Rattle.judge.specs.Counts.{zeros, transfersOf, Listed}
 use Rattle.judge.specs.declared.transfers.Transfer as declared
-use Rattle.judge.proofs.Paying.{count-le}
+use Rattle.judge.proofs.Paying.{count-le, occurs-at}
 
 map-last : (xs : List declared.Transfer) (x : declared.Transfer) → transfersOf (xs ++ (x ∷ [])) ≡ transfersOf xs ++ (transferOf x ∷ [])
 map-last [] x = refl
 map-last (y ∷ xs) x = ap (λ (r : List Transfer). transferOf y ∷ r) (map-last xs x)
-
-occurs : (f : ℕ → Transfer) (n j : ℕ) → j < n → 1 ≤ count (f j) (upTo f n)
-occurs f zero j l = absurd (omega arith)
-occurs f (suc n) j l =
-    ⊎-elim
-    (λ (d : j ≡ n). rw d (omega (arith, count-append (f n) (upTo f n) (f n ∷ []), same-refl (f n))))
-    (λ (d : j < n). omega (arith, count-append (f j) (upTo f n) (f n ∷ []), occurs f n j d))
-    (eq-or-lt-of-le {n = j} {m = n} (omega arith))
 
 module _ (xs : List declared.Transfer) where
   abbrev placed : ℕ → Transfer
@@ -51,7 +42,7 @@ module _ (xs : List declared.Transfer) where
 
   -- the transfer of place j stands among the first n
   pub count-some : (n j : ℕ) → j < n → n ≤ length xs → 1 ≤ count (placed j) (transfersOf (take n xs))
-  count-some n j l k = rw (prefix≡ n k) (occurs placed n j l)
+  count-some n j l k = rw (prefix≡ n k) (occurs-at placed n j l)
 
   list≡ : (e : List ℕ) → length e ≤ 96 → Listed e (transfers e) xs → transfersOf (take (transfers e) xs) ≡ exchangeOf e
   unfolding exchangeOf

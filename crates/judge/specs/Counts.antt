@@ -1,13 +1,13 @@
 -- Question 21 over the bytes: for each transfer of the exchange one byte, how often its giver, kind and receiver are asked as a
--- price, and one flag for a price that no transfer meets. How often it occurs is counted in the list that the exchange is read into.
+-- price, counted at the first of equal transfers, and one flag for a price that no transfer meets. How often it occurs is counted in the list that the exchange is read into.
 use mathlib.Core.Path.{_≡_}
-use mathlib.Core.Bool.{Bool, not, _&&_}
+use mathlib.Core.Bool.{Bool, not, _&&_, cond}
 use mathlib.Core.List.{List, map}
 use Prim.Native.Nat.{ℕ, _+_, _/_, _≤_, _<_}
-use lib.Dec.{leb}
+use lib.Dec.{eqb, leb}
 use lib.ListN.{length, getD}
 use Rattle.model.specs.Limits.{transferSize, exchangeLimit}
-use Rattle.model.specs.Lists.{every}
+use Rattle.model.specs.Lists.{every, upTo}
 use Rattle.model.specs.Transfers.{Transfer, Exchange, count, transferAt, exchangeOf}
 use Rattle.judge.specs.Parts.{transfers, transferOf}
 use Rattle.judge.specs.Rows.{below}
@@ -38,10 +38,14 @@ pub record Room (e : List ℕ) (k : ℕ) (counts : List ℕ) : Type 0 where
   pub size : length counts ≡ exchangeLimit / transferSize
   pub free : (j : ℕ) → j < transfers e → getD counts j 0 + k ≤ 255
 
+-- k at the first of equal transfers, nothing at the others
+unfoldable pub atFirst : List ℕ → ℕ → ℕ → ℕ
+atFirst e j k = cond (eqb (count (transferAt e j) (upTo (transferAt e) j)) 0) k 0
+
 -- the counts before and after the prices Q were asked; all: each of them is a transfer of the exchange
 pub record Asks (e : List ℕ) (Q : Exchange) (before after : List ℕ) (all : Bool) : Type 0 where
   pub size : length after ≡ length before
-  pub more : (j : ℕ) → j < transfers e → getD after j 0 ≡ getD before j 0 + count (transferAt e j) Q
+  pub more : (j : ℕ) → j < transfers e → getD after j 0 ≡ getD before j 0 + atFirst e j (count (transferAt e j) Q)
   pub found : all ≡ every (occurs e) Q
 
 -- each transfer is asked at most as often as it occurs, and nothing else is asked

@@ -55,19 +55,19 @@ pub(crate) fn all_payable(row: &[u8], rec: &[u8]) -> bool
     true
 }
 
-// One more at each transfer that is the given one; whether there is any.
+// One more at the first transfer that is the given one; whether there is any.
 fn ask(exchange: &[u8], t: Transfer, counts: &mut [u8; 32]) -> bool
     requires { ⌜ (Short (now exchange)) × (Room (now exchange) 1 (now counts)) ⌝ }
     ensures { λ r. ⌜ Asks (now (exchange .entry)) (transferOf t ∷ []) (now (counts .entry)) (now (counts .exit)) r ⌝ }
 {
     let n = exchange.len() / limits::TRANSFER_SIZE;
-    let mut sum: u8 = 0;
     for j in 0..n {
-        let one = same(t, transfer_at(exchange, j));
-        counts[j] = counts[j] + one;
-        sum += one;
+        if same(t, transfer_at(exchange, j)) == 1 {
+            counts[j] = counts[j] + 1;
+            return true;
+        }
     }
-    0 < sum
+    false
 }
 
 // Every price of the row asked; whether each is a transfer of the exchange.
