@@ -14,12 +14,12 @@ use Rattle.model.specs.Holdings.{State, isCovered, settled}
 use Rattle.model.specs.Calls.{endsLimited}
 use Rattle.model.proofs.Tests.{eq-T, bool-ext, every-at, every-in}
 use Rattle.model.proofs.Places.{upTo-length, upTo-at, every-upTo, every-oneTo, in-oneTo}
-use Rattle.model.proofs.Sums.{covered→}
 use Rattle.answers.specs.declared.Answer.the-variants.{Done, Refused}
 use Rattle.accounts.specs.View.{Ranged, spot, stateFrom}
-use Rattle.settling.specs.Moves.{Coverable, Taken, Brought, Roomy, allLimited}
+use Rattle.settling.specs.Moves.{Taken, Brought, Roomy, allLimited}
 use Rattle.settling.specs.Finish.{Judged, Finished}
 use Rattle.accounts.proofs.HoldingPlaces.{held-at}
+use Rattle.settling.proofs.MoveLaws.{taken-covered}
 
 -- ---- the limit, place by place and card by card
 
@@ -62,9 +62,6 @@ module _ (b : Book) (s : State) (e : List ℕ) where
 -- ---- the steps
 
 module _ (cards : ℕ) (h e : List ℕ) (n : ℕ) (j : Judged cards e n) where
-  pub coverable : length h ≡ 512 → true ≡ isCovered (stateFrom h) (exchangeOf e) → Coverable h e n
-  coverable long c = record { proper = j .proper; long = long; enough = covered→ (stateFrom h) (exchangeOf e) (eq-T (sym c)) }
-
   pub roomy : (h′ : List ℕ) (m : ℕ) → m ≡ min cards cardLimit → Taken h e h′ → true ≡ allLimited h′ m → Roomy h′ e n
   roomy h′ m q t l = record {
     proper = j .proper;
@@ -76,13 +73,13 @@ module _ (cards : ℕ) (h e : List ℕ) (n : ℕ) (j : Judged cards e n) where
   ended : (h₁ h₂ : List ℕ) → Taken h e h₁ → Brought h₁ e h₂ → (c k : ℕ) → stateFrom h₂ .held c k ≡ settled (stateFrom h) (exchangeOf e) c k
   ended h₁ h₂ t w c k = omega (arith, t .less c k, w .more c k)
 
-  pub not-covered : false ≡ isCovered (stateFrom h) (exchangeOf e) → Finished cards h e (Refused 22 0) h
-  not-covered c = record { answers = λ b l. rw (← c); leaves = refl; size = refl }
+  pub not-covered : isCovered (stateFrom h) (exchangeOf e) ≡ false → Finished cards h e (Refused 22 0) h
+  not-covered c = record { answers = λ b l. rw c; leaves = refl; size = refl }
 
   -- the gifts taken, a holding passes the limit already
-  pub taken-exceeds : (h₁ : List ℕ) (m : ℕ) → m ≡ min cards cardLimit → true ≡ isCovered (stateFrom h) (exchangeOf e) → Taken h e h₁ → false ≡ allLimited h₁ m
+  pub taken-exceeds : (h₁ : List ℕ) (m : ℕ) → m ≡ min cards cardLimit → Taken h e h₁ → false ≡ allLimited h₁ m
       → Finished cards h e (Refused 23 0) h
-  taken-exceeds h₁ m q c t x = record { answers = λ b l. rw (← c, ends-fails b l); leaves = refl; size = refl }
+  taken-exceeds h₁ m q t x = record { answers = λ b l. rw (taken-covered h e h₁ n (j .proper) t, ends-fails b l); leaves = refl; size = refl }
     where
       ends-fails : (b : Book) → length (b .cards) ≡ min cards cardLimit → endsLimited b (stateFrom h) (exchangeOf e) ≡ false
       ends-fails b l =
@@ -90,14 +87,14 @@ module _ (cards : ℕ) (h e : List ℕ) (n : ℕ) (j : Judged cards e n) where
           (λ f. subst T (sym x) (→limited h₁ m (omega arith) (λ d k r u. omega (arith, t .less d k, ends→ b (stateFrom h) e f d k r (omega arith)))))
           (λ f. absurd f)
 
-  module _ (h₁ h₂ : List ℕ) (m : ℕ) (q : m ≡ min cards cardLimit) (c : true ≡ isCovered (stateFrom h) (exchangeOf e)) (t : Taken h e h₁) (w : Brought h₁ e h₂) where
+  module _ (h₁ h₂ : List ℕ) (m : ℕ) (q : m ≡ min cards cardLimit) (t : Taken h e h₁) (w : Brought h₁ e h₂) where
     ends-is : (b : Book) → length (b .cards) ≡ min cards cardLimit → endsLimited b (stateFrom h) (exchangeOf e) ≡ allLimited h₂ m
     ends-is b l = bool-ext (endsLimited b (stateFrom h) (exchangeOf e)) (allLimited h₂ m)
         (λ f. →limited h₂ m (omega arith) (λ c k r u. omega (arith, ended h₁ h₂ t w c k, ends→ b (stateFrom h) e f c k r (omega arith))))
         (λ f. →ends b (stateFrom h) e (omega arith) (λ c k r u. omega (arith, ended h₁ h₂ t w c k, limited-at h₂ m c k f r (omega arith))))
 
     pub given-exceeds : false ≡ allLimited h₂ m → Finished cards h e (Refused 23 0) h
-    given-exceeds x = record { answers = λ b l. rw (← c, ends-is b l, ← x); leaves = refl; size = refl }
+    given-exceeds x = record { answers = λ b l. rw (taken-covered h e h₁ n (j .proper) t, ends-is b l, ← x); leaves = refl; size = refl }
 
     pub moved : length h ≡ 512 → true ≡ allLimited h₂ m → Finished cards h e Done h₂
-    moved long x = record { answers = λ b l. rw (← c, ends-is b l, ← x); leaves = ended h₁ h₂ t w; size = w .long ∙ sym long }
+    moved long x = record { answers = λ b l. rw (taken-covered h e h₁ n (j .proper) t, ends-is b l, ← x); leaves = ended h₁ h₂ t w; size = w .long ∙ sym long }

@@ -1,7 +1,7 @@
 -- What the steps of a settlement that has been judged promise: question 22, all gifts taken, all receipts added. These are private
 -- contracts: nothing here has to be believed.
 use mathlib.Core.Path.{_≡_}
-use mathlib.Core.Bool.{Bool}
+use mathlib.Core.Bool.{Bool, true, false}
 use mathlib.Core.List.{List}
 use Prim.Native.Nat.{ℕ, _+_, _*_, _≤_, _<_}
 use lib.Dec.{leb}
@@ -9,7 +9,7 @@ use lib.ListN.{length, getD}
 use Rattle.model.specs.Limits.{kindCount, sumLimit, transferSize}
 use Rattle.model.specs.Lists.{every, upTo}
 use Rattle.model.specs.Transfers.{transferAt, exchangeOf}
-use Rattle.model.specs.Holdings.{gives, receives}
+use Rattle.model.specs.Holdings.{gives, receives, isCovered}
 use Rattle.accounts.specs.View.{Ranged, stateFrom}
 
 -- what questions 12 and 13 have shown of an exchange of n transfers
@@ -19,16 +19,19 @@ pub record Proper (e : List ℕ) (n : ℕ) : Type 0 where
   pub givers : (i : ℕ) → i < n → Ranged (transferAt e i .giver) (transferAt e i .kind)
   pub receivers : (i : ℕ) → i < n → Ranged (transferAt e i .receiver) (transferAt e i .kind)
 
--- and question 22
-pub record Coverable (h e : List ℕ) (n : ℕ) : Type 0 where
+pub record Takable (h e : List ℕ) (n : ℕ) : Type 0 where
   pub proper : Proper e n
   pub long : length h ≡ 512
-  pub enough : (c k : ℕ) → gives c k (exchangeOf e) ≤ stateFrom h .held c k
 
 -- the holdings h′ are h less what e gives
 pub record Taken (h e h′ : List ℕ) : Type 0 where
   pub long : length h′ ≡ 512
   pub less : (c k : ℕ) → stateFrom h′ .held c k + gives c k (exchangeOf e) ≡ stateFrom h .held c k
+
+-- all gifts are taken, or the exchange is not covered
+abbrev pub Took : Bool → List ℕ → List ℕ → List ℕ → Type 0
+Took true h e h′ = Taken h e h′
+Took false h e h′ = isCovered (stateFrom h) (exchangeOf e) ≡ false
 
 -- the holdings h′ are h and what e brings
 pub record Brought (h e h′ : List ℕ) : Type 0 where

@@ -33,12 +33,11 @@ fn finish(cards: u8, holdings: &mut [u32; 512], exchange: &[u8], n: usize) -> An
     requires { ⌜ Judged cards (now exchange) n ⌝ }
     ensures { λ r. ⌜ Finished cards (now (holdings .entry)) (now (exchange .entry)) r (now (holdings .exit)) ⌝ }
 {
-    if !moves::covered(holdings, exchange, n) {
+    let mut next = copied(holdings);
+    if !moves::take(&mut next, exchange, n) {
         return Answer::Refused(answers::NOT_COVERED, 0);
     }
     let count = clamp(cards);
-    let mut next = copied(holdings);
-    moves::take(&mut next, exchange, n);
     // Before the receipts too, so that none overflows: a holding past the limit without them is past it with them.
     if !moves::limited(&next, count) {
         return Answer::Refused(answers::HOLDING_EXCEEDED, 0);

@@ -3,32 +3,24 @@ use mathlib.Core.Path.{_≡_, sym, _∙_}
 use lib.ListN.{length}
 use borrow.Author.Needs.{needs}
 use borrow.Author.Tests.{not-true, not-false}
-use Rattle.settling.proofs.FinishLaws.{coverable, roomy, not-covered, taken-exceeds, given-exceeds, moved}
+use Rattle.settling.proofs.FinishLaws.{roomy, not-covered, taken-exceeds, given-exceeds, moved}
 use Rattle.settling.proofs.finish.Statement.{statement}
 use Rattle.settling.proofs.finish.Tie as tie
-
-covered-requires : tie.Need-covered-requires
-covered-requires c κs = search needs
-
-returns : tie.Need-returns
-returns c =
-    let asked = c .before .covered in
-    not-covered _ _ _ _ (c .before .before .before .before .pre) (sym (not-true _ (c .if1 .taken)) ∙ asked .ensures)
-
-clamp-requires : tie.Need-clamp-requires
-clamp-requires c κs = search needs
 
 copied-requires : tie.Need-copied-requires
 copied-requires c κs = search needs
 
 take-requires : tie.Need-take-requires
-take-requires c κs =
-    let copy = c .before .copied in
-    let tested = c .before .before .before .before .if1 in
-    let asked = c .before .before .before .before .before .covered in
-    let long : length (copy .result) ≡ 512 = search needs in
-    rw (copy .ensures)
-    (coverable _ _ _ _ (c .before .before .before .before .before .before .before .before .pre) (rw (copy .ensures) at long) (sym (not-false _ (tested .left)) ∙ asked .ensures))
+take-requires c κs = search needs
+
+returns : tie.Need-returns
+returns c =
+    let took = c .before .take in
+    let copy = c .before .before .before .copied in
+    not-covered _ _ _ _ (c .before .before .before .before .before .before .pre) (rw (copy .ensures, not-true (took .result) (c .if1 .taken)) at (took .ensures))
+
+clamp-requires : tie.Need-clamp-requires
+clamp-requires c κs = search needs
 
 limited-requires : tie.Need-limited-requires
 limited-requires c κs = search needs
@@ -36,20 +28,21 @@ limited-requires c κs = search needs
 returns-2 : tie.Need-returns-2
 returns-2 c =
     let limited = c .before .limited in
-    let took = c .before .before .before .take in
-    let copy = c .before .before .before .before .before .copied in
-    let count = c .before .before .before .before .before .before .before .clamp in
-    let tested = c .before .before .before .before .before .before .before .before .if1 in
-    let asked = c .before .before .before .before .before .before .before .before .before .covered in
-    taken-exceeds _ _ _ _ (c .before .before .before .before .before .before .before .before .before .before .before .before .pre) _ _ (count .ensures .0) (sym (not-false _ (tested .left)) ∙ asked .ensures)
-    (rw (copy .ensures) at (took .ensures)) (sym (not-true _ (c .if2 .taken)) ∙ limited .ensures)
+    let count = c .before .before .before .clamp in
+    let tested = c .before .before .before .before .if1 in
+    let took = c .before .before .before .before .before .take in
+    let copy = c .before .before .before .before .before .before .before .copied in
+    taken-exceeds _ _ _ _ (c .before .before .before .before .before .before .before .before .before .before .pre) _ _ (count .ensures .0)
+    (rw (copy .ensures, not-false (took .result) (tested .left)) at (took .ensures)) (sym (not-true _ (c .if2 .taken)) ∙ limited .ensures)
 
 give-requires : tie.Need-give-requires
 give-requires c κs =
     let limited = c .before .before .limited in
-    let took = c .before .before .before .before .take in
-    let count = c .before .before .before .before .before .before .before .before .clamp in
-    roomy _ _ _ _ (c .before .before .before .before .before .before .before .before .before .before .before .before .before .pre) _ _ (count .ensures .0) (took .ensures) (sym (not-false _ (c .before .if2 .left)) ∙ limited .ensures)
+    let count = c .before .before .before .before .clamp in
+    let tested = c .before .before .before .before .before .if1 in
+    let took = c .before .before .before .before .before .before .take in
+    roomy _ _ _ _ (c .before .before .before .before .before .before .before .before .before .before .before .pre) _ _ (count .ensures .0)
+    (rw (not-false (took .result) (tested .left)) at (took .ensures)) (sym (not-false _ (c .before .if2 .left)) ∙ limited .ensures)
 
 limited-requires-2 : tie.Need-limited-requires-2
 limited-requires-2 c κs = search needs
@@ -58,36 +51,33 @@ returns-3 : tie.Need-returns-3
 returns-3 c =
     let limited = c .before .limited2 in
     let gave = c .before .before .before .give in
-    let took = c .before .before .before .before .before .before .before .before .take in
-    let copy = c .before .before .before .before .before .before .before .before .before .before .copied in
-    let count = c .before .before .before .before .before .before .before .before .before .before .before .before .clamp in
-    let tested = c .before .before .before .before .before .before .before .before .before .before .before .before .before .if1 in
-    let asked = c .before .before .before .before .before .before .before .before .before .before .before .before .before .before .covered in
-    given-exceeds _ _ _ _ (c .before .before .before .before .before .before .before .before .before .before .before .before .before .before .before .before .before .pre) _ _ _ (count .ensures .0) (sym (not-false _ (tested .left)) ∙ asked .ensures)
-    (rw (copy .ensures) at (took .ensures)) (gave .ensures) (sym (not-true _ (c .if3 .taken)) ∙ limited .ensures)
+    let count = c .before .before .before .before .before .before .before .before .clamp in
+    let tested = c .before .before .before .before .before .before .before .before .before .if1 in
+    let took = c .before .before .before .before .before .before .before .before .before .before .take in
+    let copy = c .before .before .before .before .before .before .before .before .before .before .before .before .copied in
+    given-exceeds _ _ _ _ (c .before .before .before .before .before .before .before .before .before .before .before .before .before .before .before .pre) _ _ _ (count .ensures .0)
+    (rw (copy .ensures, not-false (took .result) (tested .left)) at (took .ensures)) (gave .ensures) (sym (not-true _ (c .if3 .taken)) ∙ limited .ensures)
 
 returns-4 : tie.Need-returns-4
 returns-4 c =
     let limited = c .before .limited2 in
     let gave = c .before .before .before .give in
-    let took = c .before .before .before .before .before .before .before .before .take in
-    let copy = c .before .before .before .before .before .before .before .before .before .before .copied in
-    let count = c .before .before .before .before .before .before .before .before .before .before .before .before .clamp in
-    let tested = c .before .before .before .before .before .before .before .before .before .before .before .before .before .if1 in
-    let asked = c .before .before .before .before .before .before .before .before .before .before .before .before .before .before .covered in
+    let count = c .before .before .before .before .before .before .before .before .clamp in
+    let tested = c .before .before .before .before .before .before .before .before .before .if1 in
+    let took = c .before .before .before .before .before .before .before .before .before .before .take in
+    let copy = c .before .before .before .before .before .before .before .before .before .before .before .before .copied in
     let long : length (copy .result) ≡ 512 = search needs in
-    moved _ _ _ _ (c .before .before .before .before .before .before .before .before .before .before .before .before .before .before .before .before .before .pre) _ _ _ (count .ensures .0) (sym (not-false _ (tested .left)) ∙ asked .ensures)
-    (rw (copy .ensures) at (took .ensures)) (gave .ensures) (rw (copy .ensures) at long) (sym (not-false _ (c .if3 .left)) ∙ limited .ensures)
+    moved _ _ _ _ (c .before .before .before .before .before .before .before .before .before .before .before .before .before .before .before .pre) _ _ _ (count .ensures .0)
+    (rw (copy .ensures, not-false (took .result) (tested .left)) at (took .ensures)) (gave .ensures) (rw (copy .ensures) at long) (sym (not-false _ (c .if3 .left)) ∙ limited .ensures)
 
 pub finish-spec : {M : Type 1} → statement M
 finish-spec =
     tie.close
     (tie.spec
-    covered-requires
-    returns
-    clamp-requires
     copied-requires
     take-requires
+    returns
+    clamp-requires
     limited-requires
     returns-2
     give-requires
