@@ -4,10 +4,10 @@ use mathlib.Core.Bool.{Bool, true, false, _&&_}
 use mathlib.Core.List.{List}
 use mathlib.Core.Logic.{⊎-elim}
 use Prim.Native.Nat.{ℕ, _+_, _-_, _*_, _≤_, _<_}
+use native.Mathlib.Numerals.{add-one}
 use native.Mathlib.Omega.{arith}
 use lib.Dec.{T, eqb, leb, le→leb}
 use lib.ListN.{length, getD, set, length-set}
-use borrow.Author.Tests.{le-leb, lt-leb}
 use Rattle.model.specs.Limits.{kindCount, sumLimit}
 use Rattle.model.specs.Lists.{oneIf, every, upTo}
 use Rattle.model.specs.Transfers.{Transfer, transferAt, exchangeOf}
@@ -18,7 +18,7 @@ use Rattle.model.proofs.Sums.{covered→}
 use Rattle.accounts.specs.View.{spot, stateFrom}
 use Rattle.settling.specs.Moves.{Proper, Takable, Taken, Brought, Roomy, allLimited}
 use Rattle.accounts.proofs.HoldingPlaces.{held-at, store-cases}
-use Rattle.model.proofs.Loops.{every-more, every-stop}
+use Rattle.model.proofs.Loops.{every-last}
 use Rattle.settling.proofs.Transfers.{firstOf, whole, along-more, along-part, along-few}
 
 -- ---- gifts taken
@@ -118,26 +118,22 @@ brought-all h₀ e h i n p d l =
 
 -- ---- question 23
 
-pub record LimitedTo (h : List ℕ) (i n : ℕ) : Type 0 where
+-- whether the first i holdings are at most the limit
+pub record LimitedTo (h : List ℕ) (all : Bool) (i n : ℕ) : Type 0 where
   pub some : i ≤ n
-  pub all : every (λ x. leb x sumLimit) (upTo (λ j. getD h j 0) i) ≡ true
+  pub is : all ≡ every (λ x. leb x sumLimit) (upTo (λ j. getD h j 0) i)
 
-pub limited-none : (h : List ℕ) (n : ℕ) → LimitedTo h 0 n
-limited-none h n = record { some = omega arith; all = refl }
+pub limited-none : (h : List ℕ) (n : ℕ) → LimitedTo h true 0 n
+limited-none h n = record { some = omega arith; is = refl }
 
-pub limited-more : (h : List ℕ) (i n : ℕ) → LimitedTo h i n → i < n → getD h i 0 ≤ sumLimit → LimitedTo h (i + 1) n
-limited-more h i n d l m = record {
+pub limited-more : (h : List ℕ) (all : Bool) (i n : ℕ) → LimitedTo h all i n → i < n → LimitedTo h (all && leb (getD h i 0) sumLimit) (i + 1) n
+limited-more h all i n d l = record {
   some = omega arith;
-  all = every-more (λ x. leb x sumLimit) (λ j. getD h j 0) i (d .all) (le-leb (getD h i 0) sumLimit m);
+  is = rw (add-one i, every-last (λ x. leb x sumLimit) (λ j. getD h j 0) i, d .is);
 }
 
-pub limited-fails : (h : List ℕ) (i cards : ℕ) → LimitedTo h i (cards * kindCount) → i < cards * kindCount → sumLimit < getD h i 0 → allLimited h cards ≡ false
+pub limited-all : (h : List ℕ) (all : Bool) (i cards : ℕ) → LimitedTo h all i (cards * kindCount) → cards * kindCount ≤ i → all ≡ allLimited h cards
 unfolding allLimited
-limited-fails h i cards d l m =
-    every-stop (λ x. leb x sumLimit) (λ j. getD h j 0) i _ (cards * kindCount) (d .all) (lt-leb (getD h i 0) sumLimit m) l refl
-
-pub limited-all : (h : List ℕ) (i cards : ℕ) → LimitedTo h i (cards * kindCount) → cards * kindCount ≤ i → allLimited h cards ≡ true
-unfolding allLimited
-limited-all h i cards d l =
-    let z : cards * kindCount ≡ i = omega (arith, d .some) in
-    ap (λ (j : ℕ). every (λ x. leb x sumLimit) (upTo (λ j. getD h j 0) j)) z ∙ d .all
+limited-all h all i cards d l =
+    let z : i ≡ cards * kindCount = omega (arith, d .some) in
+    d .is ∙ ap (λ (j : ℕ). every (λ x. leb x sumLimit) (upTo (λ j. getD h j 0) j)) z

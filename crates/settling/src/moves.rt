@@ -48,10 +48,10 @@ pub(crate) fn limited(holdings: &[u32; 512], cards: usize) -> bool
     requires { ⌜ cards ≤ 32 ⌝ }
     ensures { λ r. ⌜ r ≡ allLimited (now (holdings .entry)) cards ⌝ }
 {
+    // Every holding is asked, so that the compiler asks several at once.
+    let mut all = true;
     for i in 0..cards * KINDS {
-        if SUM_LIMIT < holdings[i] {
-            return false;
-        }
+        all = all & (holdings[i] <= SUM_LIMIT);
     }
-    true
+    all
 }
