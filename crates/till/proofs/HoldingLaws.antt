@@ -1,6 +1,6 @@
 -- Loops over the 512 holdings: a copy, the undeclared cards' holdings, the kinds' sums.
 use mathlib.Core.Path.{_≡_, refl, sym, ap, _∙_}
-use mathlib.Core.Bool.{Bool, true, false, _||_}
+use mathlib.Core.Bool.{Bool, true, false, _&&_, _||_}
 use mathlib.Core.List.{List}
 use mathlib.Core.Logic.{⊎-elim}
 use Prim.Native.Nat.{ℕ, suc, _+_, _*_, _/_, _%_, _≤_, _<_, min}
@@ -15,7 +15,7 @@ use Rattle.model.specs.Limits.{cardLimit, kindCount, sumLimit}
 use Rattle.model.specs.Lists.{every, oneTo}
 use Rattle.model.specs.Book.{declared}
 use Rattle.model.specs.Holdings.{total}
-use Rattle.model.proofs.Tests.{eq-T, T-eq, never-true, either-true, within-true, true-within, or-right, lt-or-ge, every-in}
+use Rattle.model.proofs.Tests.{eq-T, T-eq, eqb-ne, never-true, either-true, within-true, true-within, or-right, lt-or-ge, every-in}
 use Rattle.model.proofs.Places.{every-oneTo, in-oneTo}
 use Rattle.model.proofs.Loops.{every-more, every-stop}
 use Rattle.accounts.specs.View.{Ranged, spot, stateFrom}
@@ -64,25 +64,30 @@ module _ (i : ℕ) (l : i < holdingCount) where
       let at : spot (cardAt i) (kindAt i) ≡ i = omega arith in
       held-at h (cardAt i) (kindAt i) ranged-at ∙ ap (λ (j : ℕ). getD h j 0) at
 
--- the numbers from n to i are zero
-pub record ZeroTo (h : List ℕ) (n i : ℕ) : Type 0 where
+-- the numbers from n to i are zero, or one of them is not
+abbrev ZeroIs : Bool → List ℕ → ℕ → ℕ → Type 0
+ZeroIs true h n i = (j : ℕ) → j < i → n ≤ j → getD h j 0 ≡ 0
+ZeroIs false h n i = (j : ℕ) × (n ≤ j) × (j < i) × (getD h j 0 ≡ 0 → ⊥)
+
+pub record ZeroTo (h : List ℕ) (zero : Bool) (n i : ℕ) : Type 0 where
   pub begun : n ≤ i
   pub some : i ≤ holdingCount
-  pub zero : (j : ℕ) → j < i → n ≤ j → getD h j 0 ≡ 0
+  pub is : ZeroIs zero h n i
 
-pub zero-none : (h : List ℕ) (n : ℕ) → n ≤ holdingCount → ZeroTo h n n
-zero-none h n l = record { begun = omega arith; some = l; zero = λ j m k. absurd (omega arith) }
+pub zero-none : (h : List ℕ) (n : ℕ) → n ≤ holdingCount → ZeroTo h true n n
+zero-none h n l = record { begun = omega arith; some = l; is = λ j m k. absurd (omega arith) }
 
-pub zero-more : (h : List ℕ) (n i : ℕ) → ZeroTo h n i → i < holdingCount → getD h i 0 ≡ 0 → ZeroTo h n (i + 1)
-zero-more h n i z l e = record {
-  begun = omega (arith, z .begun);
-  some = omega arith;
-  zero = below-more (λ j. n ≤ j → getD h j 0 ≡ 0) i (z .zero) (λ m. e);
-}
+pub zero-more : (h : List ℕ) (zero : Bool) (n i : ℕ) → ZeroTo h zero n i → i < holdingCount → ZeroTo h (zero && eqb (getD h i 0) 0) n (i + 1)
+zero-more h zero n i z l = record { begun = omega (arith, z .begun); some = omega arith; is = go zero (eqb (getD h i 0) 0) refl (z .is) }
+  where
+    go : (x y : Bool) → eqb (getD h i 0) 0 ≡ y → ZeroIs x h n i → ZeroIs (x && y) h n (i + 1)
+    go true true e f = below-more (λ j. n ≤ j → getD h j 0 ≡ 0) i f (λ m. eqb→eq (getD h i 0) 0 (eq-T e))
+    go true false e f = (i, z .begun, omega arith, eqb-ne (getD h i 0) 0 e)
+    go false y e f = (f .0, f .1, omega (arith, f .2), f .3)
 
 module _ (h : List ℕ) (cards n : ℕ) (e : n ≡ min cards cardLimit * kindCount) where
   -- a number past the declared cards' that is not zero
-  pub zero-fails : (i : ℕ) → n ≤ i → i < holdingCount → (getD h i 0 ≡ 0 → ⊥) → UndeclaredZero cards h false
+  zero-fails : (i : ℕ) → n ≤ i → i < holdingCount → (getD h i 0 ≡ 0 → ⊥) → UndeclaredZero cards h false
   unfolding undeclaredZero
   zero-fails i m l x b q = sym (never-true (undeclaredZero b (stateFrom h)) (λ t. x (sym (held-place i l h) ∙ nothing (eq-T t))))
     where
@@ -97,19 +102,23 @@ module _ (h : List ℕ) (cards n : ℕ) (e : n ≡ min cards cardLimit * kindCou
           ⊎-elim (λ d. absurd (omega (arith, within-true c (length (b .cards)) d .1))) (λ z. eqb→eq (stateFrom h .held c k) 0 (eq-T z))
           (either-true (declared b c) (eqb (stateFrom h .held c k) 0) (T-eq _ one))
 
-  pub zero-all : (i : ℕ) → ZeroTo h n i → holdingCount ≤ i → UndeclaredZero cards h true
+  zero-passes : ((j : ℕ) → j < holdingCount → n ≤ j → getD h j 0 ≡ 0) → UndeclaredZero cards h true
   unfolding undeclaredZero
-  zero-all i z l b q =
+  zero-passes z b q =
       sym (T-eq (undeclaredZero b (stateFrom h))
       (every-oneTo (λ c. every (λ k. declared b c || eqb (stateFrom h .held c k) 0) (oneTo kindCount)) cardLimit (λ c u v.
       every-oneTo (λ k. declared b c || eqb (stateFrom h .held c k) 0) kindCount (λ k w y. each c k (record { c-low = u; c-high = v; k-low = w; k-high = y })))))
     where
       each : (c k : ℕ) → Ranged c k → T (declared b c || eqb (stateFrom h .held c k) 0)
       each c k r =
-          ⊎-elim (λ m. let o : stateFrom h .held c k ≡ 0 = held-at h c k r ∙ z .zero (spot c k) (omega (arith, r .k-low, r .k-high, r .c-high)) (omega (arith, r .k-low)) in
+          ⊎-elim (λ m. let o : stateFrom h .held c k ≡ 0 = held-at h c k r ∙ z (spot c k) (omega (arith, r .k-low, r .k-high, r .c-high)) (omega (arith, r .k-low)) in
           rw o (or-right (declared b c) true tt))
           (λ m. rw (true-within c (length (b .cards)) (r .c-low) m) tt)
           (lt-or-ge (length (b .cards)) c)
+
+  pub zero-all : (zero : Bool) (i : ℕ) → ZeroTo h zero n i → holdingCount ≤ i → UndeclaredZero cards h zero
+  zero-all true i z l = zero-passes (λ j m k. z .is j (omega arith) k)
+  zero-all false i z l = let f = z .is in zero-fails (f .0) (f .1) (omega (arith, f .2, z .some)) (f .3)
 
 -- ---- the sums
 
