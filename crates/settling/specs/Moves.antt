@@ -19,6 +19,7 @@ pub record Proper (e : List ℕ) (n : ℕ) : Type 0 where
   pub givers : (i : ℕ) → i < n → Ranged (transferAt e i .giver) (transferAt e i .kind)
   pub receivers : (i : ℕ) → i < n → Ranged (transferAt e i .receiver) (transferAt e i .kind)
 
+-- all that `take` needs: whether the gifts are held is for it to find out
 pub record Takable (h e : List ℕ) (n : ℕ) : Type 0 where
   pub proper : Proper e n
   pub long : length h ≡ 512

@@ -18,7 +18,7 @@ fn place(card: u8, kind: u8) -> usize
     (card as usize - 1) * KINDS + (kind as usize - 1)
 }
 
-// Question 22 and the gifts taken: one by one, for as long as each giver still holds one of the kind.
+// Question 22, as the gifts are taken one by one: false at the first that is no longer held, with those before it taken.
 pub(crate) fn take(holdings: &mut [u32; 512], exchange: &[u8], n: usize) -> bool
     requires { ⌜ Takable (now holdings) (now exchange) n ⌝ }
     ensures { λ r. ⌜ Took r (now (holdings .entry)) (now (exchange .entry)) (now (holdings .exit)) ⌝ }
