@@ -3,7 +3,7 @@ use mathlib.Core.Path.{_≡_, refl, sym, ap}
 use mathlib.Core.Bool.{Bool, true, false, _&&_, cond}
 use mathlib.Core.List.{List}
 use Prim.Native.Nat.{ℕ, min}
-use lib.ListN.{length, getD, replicate}
+use lib.ListN.{length, getD, replicate, length-replicate}
 use Rattle.model.specs.Limits.{cardLimit, kindCount}
 use Rattle.model.specs.Lists.{within}
 use Rattle.model.specs.Questions as model
@@ -45,7 +45,7 @@ pub opens : (text : List ℕ) (r : Reading) → Reads r text → Opens text (r .
   rules = r .tables .rules;
   rows = r .tables .rows;
 })
-opens text r h = record { answers = h .answer; book = h .book; state = none-held }
+opens text r h = record { answers = h .answer; book = h .book; state = none-held; size = length-replicate {A = ℕ} 512 0 }
 
 -- ---- the engine with other holdings
 
@@ -62,13 +62,14 @@ called e call r h l a = record {
   answers = a .answers (bookOf e) (declares e);
   state = a .state (bookOf e) (declares e) l;
   book = refl;
+  size = a .size;
   refused = λ k. ap (withHoldings e) (a .refused k);
 }
 
 -- a refused call returns the engine that it was given
 pub refuses : (e : Engine) (call : Call) (n i : ℕ) → replyTo (bookOf e) (stateOf e) call ≡ model.refused n i → Answers e call (Refused n i) e
 unfolding after
-refuses e call n i q = record { answers = sym q; state = rw q; book = refl; refused = λ k. refl }
+refuses e call n i q = record { answers = sym q; state = rw q; book = refl; size = refl; refused = λ k. refl }
 
 module _ (e : Engine) (x p : List ℕ) where
   pub settle-refused : (n i : ℕ) (h : List ℕ)
@@ -81,5 +82,6 @@ module _ (e : Engine) (x p : List ℕ) where
     answers = s .answers (e .lengths);
     state = settled-after (e .cards) (e .digits) (e .groups) (e .rules) (e .rows) (e .holdings) x p answer.Done h s (e .lengths);
     book = refl;
+    size = s .size;
     refused = λ k. absurd k;
   }

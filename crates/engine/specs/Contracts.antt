@@ -3,6 +3,7 @@ use mathlib.Core.Path.{_≡_}
 use mathlib.Core.List.{List}
 use Prim.Native.Nat.{ℕ}
 use lib.Dec.{T}
+use lib.ListN.{length}
 use Rattle.model.specs.Opening as model
 use Rattle.model.specs.Holdings.{noHoldings}
 use Rattle.model.specs.Calls.{Call, isRefused, replyTo, after}
@@ -20,6 +21,7 @@ pub record Opens (text : List ℕ) (answer : Answer) (e : Engine) : Type 0 where
   pub book : bookOf e ≡ model.bookOf text
   -- all 512 holdings at zero
   pub state : stateOf e ≡ noHoldings
+  pub size : length (e .holdings) ≡ 512
 
 -- a call on the engine e answers and returns
 pub record Answers (e : Engine) (call : Call) (reply : Reply) (e′ : Engine) : Type 0 where
@@ -28,5 +30,6 @@ pub record Answers (e : Engine) (call : Call) (reply : Reply) (e′ : Engine) : 
   -- the holdings afterwards; cards, groups and rules stay
   pub state : stateOf e′ ≡ after (bookOf e) (stateOf e) call
   pub book : bookOf e′ ≡ bookOf e
+  pub size : length (e′ .holdings) ≡ length (e .holdings)
   -- a refused call returns the engine that it was given
   pub refused : T (isRefused (replyOf reply)) → e′ ≡ e

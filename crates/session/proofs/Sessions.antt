@@ -14,6 +14,7 @@ use Rattle.rulebook.specs.View.{bookFrom, cardView, ruleView, rowAt}
 use Rattle.engine.specs.View.{bookOf, stateOf}
 use Rattle.engine.specs.Contracts.{Opens}
 use Rattle.engine.specs.declared.Engine.{Engine}
+use Rattle.engine.proofs.CallLaws.{withHoldings}
 use Rattle.commands.specs.Grammar.{printBook, printReply}
 use Rattle.commands.specs.View.{Printed}
 use Rattle.commands.proofs.Buffers.{sets-over}
@@ -64,9 +65,6 @@ kept-line : (line : List ℕ) (size n : ℕ) → length line ≡ suc lineLimit �
 kept-line line size n l e =
     let m : n ≡ min (length line) size = omega arith in
     ap (λ (k : ℕ). take k line) m ∙ take-least line size
-
-abbrev withHoldings : Engine → List ℕ → Engine
-withHoldings e h = record { holdings = h; cards = e .cards; digits = e .digits; lengths = e .lengths; groups = e .groups; rules = e .rules; rows = e .rows }
 
 pub feeds : (s : Session) (block out : List ℕ) (taken size : ℕ) (h line out′ : List ℕ) (kept count : ℕ) → length (s .line) ≡ suc lineLimit
     → taken ≡ min (length block) (length out / 32) → size ≡ min (s .size) (suc lineLimit)

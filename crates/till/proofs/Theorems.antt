@@ -115,20 +115,21 @@ module _ (text : List ℕ) (b : Book) (o : opening.opening text ≡ model.ok b) 
   record Made (e : Engine) : Type 0 where
     book : bookOf e ≡ b
     sound : Sound b (stateOf e)
+    size : length (e .holdings) ≡ holdingCount
 
   made : {calls : History} {rs : List Reply} {e : Engine} → Run text calls rs e → Made e
-  made (opened q) = record { book = q .book ∙ book-is text b o; sound = rw (q .state) (sound-none b) }
+  made (opened q) = record { book = q .book ∙ book-is text b o; sound = rw (q .state) (sound-none b); size = q .size }
   made (called {e = e} {call = call} run a) =
       let m = made run in
-      record { book = a .book ∙ m .book; sound = rw (a .state, m .book) (sound-after b (few text b o) (stateOf e) call (m .sound)) }
+      record { book = a .book ∙ m .book; sound = rw (a .state, m .book) (sound-after b (few text b o) (stateOf e) call (m .sound)); size = a .size ∙ m .size }
 
-  module _ (e : Engine) (m : Made e) (long : length (e .holdings) ≡ holdingCount) (x p : List ℕ) where
+  module _ (e : Engine) (m : Made e) (x p : List ℕ) where
     -- question 24 is met, and the others are the engine's
     same-reply : tillReply text (e .holdings) x p ≡ replyTo b (stateOf e) (settle x p)
     unfolding tillReply replyOver
-    same-reply = rw (o, eq-eqb (length (e .holdings)) holdingCount long, empty-zero b (stateOf e) (m .sound), limit-sums b (stateOf e) (m .sound))
+    same-reply = rw (o, eq-eqb (length (e .holdings)) holdingCount (m .size), empty-zero b (stateOf e) (m .sound), limit-sums b (stateOf e) (m .sound))
 
-    module _ (reply : Reply) (e′ : Engine) (a : Answers e (settle x p) reply e′) (long′ : length (e′ .holdings) ≡ holdingCount) (r : ℕ) (h′ : List ℕ) (t : Tills text (e .holdings) x p r h′) where
+    module _ (reply : Reply) (e′ : Engine) (a : Answers e (settle x p) reply e′) (r : ℕ) (h′ : List ℕ) (t : Tills text (e .holdings) x p r h′) where
       by-engine : tillReply text (e .holdings) x p ≡ replyOf reply
       by-engine = same-reply ∙ rw (← m .book) (sym (a .answers))
 
@@ -136,7 +137,7 @@ module _ (text : List ℕ) (b : Book) (o : opening.opening text ≡ model.ok b) 
       same-holdings (model.ok told) q =
           let z = by-engine ∙ q in
           let answered = sym (a .answers) ∙ q in
-          (t .leaves ∙ rw z) ∙ sym (numbers-are (e′ .holdings) (changed (stateOf e) (settle x p) .held) long′
+          (t .leaves ∙ rw z) ∙ sym (numbers-are (e′ .holdings) (changed (stateOf e) (settle x p) .held) (a .size ∙ m .size)
           (λ c k. ap (λ (s : State). s .held c k) (a .state ∙ after-ok (bookOf e) (stateOf e) (settle x p) told answered)))
       same-holdings (model.refused n i) q =
           let z = by-engine ∙ q in
@@ -161,4 +162,4 @@ module _ (text : List ℕ) (b : Book) (o : opening.opening text ≡ model.ok b) 
           }
 
 pub till-agrees : TillAgrees
-till-agrees text b o calls rs e run long x p reply e′ a long′ r h′ t = agrees text b o e (made text b o run) long x p reply e′ a long′ r h′ t
+till-agrees text b o calls rs e run x p reply e′ a r h′ t = agrees text b o e (made text b o run) x p reply e′ a r h′ t

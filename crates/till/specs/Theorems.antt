@@ -3,7 +3,6 @@ use mathlib.Core.Path.{_≡_}
 use mathlib.Core.Logic.{_↔_, _≢_}
 use mathlib.Core.List.{List}
 use Prim.Native.Nat.{ℕ}
-use lib.ListN.{length}
 use Rattle.model.specs.Questions.{ok, done}
 use Rattle.model.specs.Book.{Book}
 use Rattle.model.specs.Opening.{opening}
@@ -15,7 +14,7 @@ use Rattle.engine.specs.Demand3.{Run}
 use Rattle.engine.specs.declared.Engine.{Engine}
 use Rattle.answers.specs.declared.Reply.{Reply}
 use Rattle.answers.specs.declared.Reply.the-variants.{Done}
-use Rattle.till.specs.Call.{holdingCount, tillReply, numberOf}
+use Rattle.till.specs.Call.{tillReply, numberOf}
 use Rattle.till.specs.Tills.{Tills}
 
 -- no refusal has the number 0: the call answers 0 exactly if each question is met
@@ -34,11 +33,10 @@ pub record Agrees (reply : Reply) (e′ : Engine) (r : ℕ) (h′ : List ℕ) : 
   -- each of the 512 numbers
   pub holdings : h′ ≡ e′ .holdings
 
--- On the holdings of any engine that calls have made from the text, the till's call and the engine's settlement agree. An engine's
--- array has 512 numbers by its type, which a contract over its view does not repeat.
+-- On the holdings of any engine that calls have made from the text, the till's call and the engine's settlement agree.
 abbrev pub TillAgrees : Type 0
 TillAgrees =
     (text : List ℕ) (b : Book) → opening text ≡ ok b
-    → (calls : History) (rs : List Reply) (e : Engine) → Run text calls rs e → length (e .holdings) ≡ holdingCount
-    → (x p : List ℕ) (reply : Reply) (e′ : Engine) → Answers e (settle x p) reply e′ → length (e′ .holdings) ≡ holdingCount
+    → (calls : History) (rs : List Reply) (e : Engine) → Run text calls rs e
+    → (x p : List ℕ) (reply : Reply) (e′ : Engine) → Answers e (settle x p) reply e′
     → (r : ℕ) (h′ : List ℕ) → Tills text (e .holdings) x p r h′ → Agrees reply e′ r h′
