@@ -1,55 +1,29 @@
 -- What a line's form gives, and what the first question that is not met leaves.
 use mathlib.Core.Path.{_≡_, refl, sym, _∙_, ap}
-use mathlib.Core.Bool.{Bool, true, false, _&&_, _||_, cond}
+use mathlib.Core.Bool.{Bool, true, false, _&&_, cond}
 use mathlib.Core.List.{List, map}
-use Prim.Native.Char.{code}
 use Prim.Native.Nat.{ℕ, _+_, _*_, _-_, _≤_, _<_}
 use native.Mathlib.Omega.{arith}
 use lib.Dec.{eqb, leb, ltb}
-use lib.ListN.{length, getD, set, take, drop, length-map, List·getD-eq-default}
+use lib.ListN.{length, getD, set, take, drop, length-map}
 use lib.Seq.{paste}
 use borrow.Author.Tests.{lt-ltb, le-ltb, le-leb, lt-leb, ltb-true, leb-true}
 use Rattle.model.specs.Lists.{any, eqList, upTo}
 use Rattle.model.specs.CardNumbers.{luhn}
-use Rattle.model.specs.Grammar.{isVariable}
-use Rattle.model.specs.Reader.{groupOf, nameOf, isNameNumber, markAt, priceWidth, conditionWidth, hasPrice, hasCondition, digitOf, widthOf, numberOf, numberWidth, numberAt, spaceAt, isCardLine, cardDigits, isGroupLine, hasHead, ownerEnd, ruleEnd, isRuleLine, kindOf, variableOf}
+use Rattle.model.specs.Reader.{groupOf, digitOf, widthOf, numberOf, numberWidth, numberAt, spaceAt, isCardLine, cardDigits, isGroupLine, hasHead, ownerEnd, ruleEnd, isRuleLine, kindOf, variableOf}
 use Rattle.model.specs.Opening.{isCardNumber}
 use Rattle.model.proofs.Tests.{both-true}
 use Rattle.model.proofs.Places.{upTo-length}
 use Rattle.rulebook.specs.View.{cardView}
 use Rattle.rulebook.specs.Rows.{rowOf}
 use Rattle.rulebook.specs.Lines.{CardTaken, GroupTaken, RuleTaken}
-use Rattle.rulebook.proofs.Digits.{to-end}
+use Rattle.forms.proofs.Digits.{to-end}
 
 -- ---- what a form gives
 
 pub card-long : (w : List ℕ) → isCardLine w ≡ true → 2 < length w
 unfolding isCardLine
 card-long w h = ltb-true 2 (length w) (both-true (ltb 2 (length w)) _ h .0)
-
--- a byte past the end is no name, so a line that ends before has neither
-pub price-short : (w : List ℕ) (p : ℕ) → length w < p + priceWidth → false ≡ hasPrice w p
-unfolding hasPrice nameOf variableOf
-price-short w p l =
-    rw (List·getD-eq-default w 0 {n = p + 7} (omega arith))
-    (none (markAt w p (code "<")) (isVariable (variableOf (getD w (p + 3) 0))) (leb 1 (kindOf (getD w (p + 5) 0))))
-  where
-    none : (x y z : Bool) → false ≡ x && (y && (z && false))
-    none true true true = refl
-    none true true false = refl
-    none true false z = refl
-    none false y z = refl
-
-pub condition-short : (w : List ℕ) (p : ℕ) → length w < p + conditionWidth → false ≡ hasCondition w p
-unfolding hasCondition nameOf variableOf
-condition-short w p l =
-    rw (List·getD-eq-default w 0 {n = p + 5} (omega arith))
-    (none ((markAt w p (code "?") && leb 1 (groupOf (getD w (p + 3) 0))) || (markAt w p (code "=") && isNameNumber (nameOf (getD w (p + 3) 0)))) (spaceAt w (p + 4)))
-  where
-    none : (x y : Bool) → false ≡ x && (y && false)
-    none true true = refl
-    none true false = refl
-    none false y = refl
 
 -- the bytes of a card line's digits, as the program takes them
 abbrev pub digitBytes : List ℕ → List ℕ

@@ -14,7 +14,7 @@ use Rattle.model.proofs.Tests.{both-true, never-true}
 use Rattle.model.proofs.Loops.{any-more, any-stop}
 use Rattle.model.proofs.Places.{upTo-length, upTo-at}
 use Rattle.rulebook.specs.View.{cardView}
-use Rattle.rulebook.proofs.Digits.{AtByte, digit-at}
+use Rattle.forms.proofs.Digits.{AtByte, digit-at}
 
 -- ---- equal lists
 

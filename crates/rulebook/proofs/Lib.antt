@@ -1,5 +1,3 @@
-pub mod Counts
-pub mod Digits
 pub mod Known
 pub mod Rows
 pub mod Grown

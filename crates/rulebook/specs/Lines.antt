@@ -7,29 +7,15 @@ use Prim.Native.Nat.{ℕ, _+_, _-_, _*_, _≤_}
 use lib.Dec.{eqb, ltb}
 use lib.ListN.{length, getD, set}
 use lib.Seq.{paste}
-use Rattle.model.specs.Limits.{cardLimit, ruleLimit, groupCount, mostDigits, priceLimit, conditionLimit}
+use Rattle.model.specs.Limits.{cardLimit, ruleLimit, groupCount, mostDigits}
 use Rattle.model.specs.Lists.{within, upTo, any, eqList}
 use Rattle.model.specs.Questions.{Answer, ok, refused, Question, _⇒_, firstUnmet}
-use Rattle.model.specs.Reader.{groupOf, numberAt, isCardLine, cardDigits, isGroupLine, isRuleLine, headEnd, pricesEnd, priceWidth, conditionWidth, priceCount, conditionCount}
+use Rattle.model.specs.Reader.{groupOf, numberAt, isCardLine, cardDigits, isGroupLine, isRuleLine}
 use Rattle.model.specs.Book.{Book}
 use Rattle.model.specs.Opening.{isCardNumber, openLine}
 use Rattle.rulebook.specs.View.{cardView, rowSize, bookOf}
 use Rattle.rulebook.specs.Rows.{rowOf}
 use Rattle.rulebook.specs.declared.Tables.{Tables}
-use Rattle.rulebook.specs.declared.rules.Parts.{Parts}
-
--- no form is longer than this: `R 99 K v`, four prices, four conditions
-abbrev pub longest : ℕ
-longest = 64
-
--- where a rule line's prices and conditions begin, and how many they are
-pub record Parted (w : List ℕ) (r : Parts) : Type 0 where
-  pub body : r .body ≡ headEnd w
-  pub prices : r .prices ≡ priceCount w (headEnd w)
-  pub tail : r .tail ≡ pricesEnd w
-  pub conditions : r .conditions ≡ conditionCount w (pricesEnd w)
-  pub few : (r .prices ≤ priceLimit) × (r .conditions ≤ conditionLimit)
-  pub near : (r .body + priceLimit * priceWidth ≤ longest) × (r .tail + conditionLimit * conditionWidth ≤ longest)
 
 -- ---- questions 2 to 7, by the line's form
 

@@ -1,81 +1,17 @@
-// Card lines: `C digits`.
+// Card lines.
 use crate::CARD_LIMIT;
-use crate::LEAST_DIGITS;
-use crate::MOST_DIGITS;
+use forms::LEAST_DIGITS;
+use forms::MOST_DIGITS;
 ghost use mathlib.Core.Path.{_≡_};
 ghost use mathlib.Core.List.{map};
 ghost use Prim.Native.Nat.{_≤_, _<_, _*_, min, max};
-ghost use lib.Dec.{leb};
 ghost use lib.ListN.{length};
 ghost use lib.Seq.{paste};
 ghost use Rattle.model.specs.Limits.{cardLimit, leastDigits, mostDigits};
-ghost use Rattle.model.specs.Lists.{every, any, eqList, upTo};
-ghost use Rattle.model.specs.CardNumbers.{weighed, luhn};
-ghost use Rattle.model.specs.Reader.{digitOf, isCardLine};
-ghost use Rattle.model.specs.Opening.{isCardNumber};
+ghost use Rattle.model.specs.Lists.{any, eqList, upTo};
+ghost use Rattle.model.specs.Reader.{digitOf};
 ghost use Rattle.rulebook.specs.View.{cardView};
 ghost use Rattle.rulebook.specs.Lines.{CardTaken};
-
-fn all_digits(s: &[u8]) -> bool
-    ensures { λ r. ⌜ r ≡ every (λ x. leb (digitOf x) 9) (now (s .entry)) ⌝ }
-{
-    for i in 0..s.len() {
-        if 9 < ascii::digit(s[i]) {
-            return false;
-        }
-    }
-    true
-}
-
-fn has_form(line: &[u8]) -> bool
-    ensures { λ r. ⌜ r ≡ isCardLine (now (line .entry)) ⌝ }
-{
-    if line.len() <= 2 {
-        return false;
-    }
-    let spaced = ascii::byte(line, 1) == b' ';
-    spaced & all_digits(&line[2..])
-}
-
-// What a digit counts in the check sum, with so many digits to its right.
-fn weigh(right: usize, d: u8) -> usize
-    requires { ⌜ d ≤ 10 ⌝ }
-    ensures { λ r. ⌜ (r ≡ weighed right d) × (r ≤ 20) ⌝ }
-{
-    let x = d as usize;
-    if right % 2 != 1 {
-        return x;
-    }
-    if 9 < 2 * x {
-        return 2 * x - 9;
-    }
-    2 * x
-}
-
-// Whether the check digit is right: the Luhn formula.
-fn checks(s: &[u8]) -> bool
-    requires { ⌜ length (now s) ≤ mostDigits ⌝ }
-    ensures { λ r. ⌜ r ≡ luhn (map digitOf (now (s .entry))) ⌝ }
-{
-    let mut sum = 0;
-    for i in 0..s.len() {
-        sum += weigh(s.len() - (i + 1), ascii::digit(s[i]));
-    }
-    sum % 10 == 0
-}
-
-// Question 4.
-fn is_card_number(s: &[u8]) -> bool
-    ensures { λ r. ⌜ r ≡ isCardNumber (map digitOf (now (s .entry))) ⌝ }
-{
-    if s.len() < LEAST_DIGITS {
-        return false;
-    }
-    if MOST_DIGITS < s.len() {
-        return false;
-    }
-    checks(s)
-}
 
 // The number of a card's digits, as the view reads it.
 fn card_length(n: u8) -> usize
@@ -133,7 +69,7 @@ pub(crate) fn take(
     requires { ⌜ (now cards ≤ cardLimit) × (length (now digits) ≡ 608) × (length (now lengths) ≡ 32) ⌝ }
     ensures { λ r. ⌜ CardTaken (now (line .entry)) (now (cards .entry)) (now (digits .entry)) (now (lengths .entry)) r (now (cards .exit)) (now (digits .exit)) (now (lengths .exit)) ⌝ }
 {
-    if !has_form(line) {
+    if !forms::is_card_line(line) {
         return answers::NO_FORM;
     }
     let n = *cards as usize;
@@ -141,7 +77,7 @@ pub(crate) fn take(
         return answers::TOO_MANY_CARDS;
     }
     let s = &line[2..];
-    if !is_card_number(s) {
+    if !forms::is_card_number(s) {
         return answers::BAD_CARD_NUMBER;
     }
     if is_known(s, n, digits, lengths) {

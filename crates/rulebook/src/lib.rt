@@ -4,7 +4,6 @@
 // below it answer 0, or the number of the first question that the line does not meet, and then leave the tables as they were.
 mod cards;
 mod groups;
-mod letters;
 mod rules;
 mod text;
 
@@ -21,14 +20,6 @@ const CARD_LIMIT: usize = 32;
 const RULE_LIMIT: usize = 56;
 
 const GROUP_COUNT: usize = 8;
-
-const PRICE_LIMIT: usize = 4;
-
-const CONDITION_LIMIT: usize = 4;
-
-const LEAST_DIGITS: usize = 12;
-
-const MOST_DIGITS: usize = 19;
 
 // The bytes of a rule's row.
 const ROW_SIZE: usize = 32;

@@ -5,7 +5,7 @@ use Prim.Native.Nat.{ℕ, _+_, _*_, _-_, _<_, _≤_}
 use borrow.Author.Count.{below-more}
 use lib.ListN.{getD}
 use Rattle.model.specs.Reader.{digitOf}
-use Rattle.rulebook.proofs.Digits.{AtByte}
+use Rattle.forms.proofs.Digits.{AtByte}
 use Rattle.rulebook.proofs.Known.{Unlike, Alike, other-length, other-digit, equal-card}
 use borrow.Author.Needs.{needs}
 use Rattle.rulebook.proofs.cards.is_known.Statement.{statement}

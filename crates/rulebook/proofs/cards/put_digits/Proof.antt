@@ -5,7 +5,7 @@ use Prim.Native.Nat.{_*_, _-_, _≤_}
 use lib.ListN.{length, length-set}
 use lib.Seq.{paste, paste-zero}
 use Rattle.model.specs.Reader.{digitOf}
-use Rattle.rulebook.proofs.Digits.{AtByte, digit-put}
+use Rattle.forms.proofs.Digits.{AtByte, digit-put}
 use borrow.Author.Needs.{needs}
 use Rattle.rulebook.proofs.cards.put_digits.Statement.{statement}
 use Rattle.rulebook.proofs.cards.put_digits.Tie as tie

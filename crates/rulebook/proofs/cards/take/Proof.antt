@@ -26,7 +26,7 @@ number-met c = c .before .before .before .before
 
 -- the line has the form
 formed : (c : tie.Else1) → isCardLine (c .before .before .before .args .line .now) ≡ true
-formed c = sym (c .before .has-form .ensures) ∙ not-false _ (c .if1 .left)
+formed c = sym (c .before .is-card-line .ensures) ∙ not-false _ (c .if1 .left)
 
 -- its digits are a card number
 abbrev line-of : tie.Else3 → List ℕ
@@ -41,7 +41,7 @@ few c = number-size (digitBytes (line-of c)) (numbered c) .1
 -- ---- the needs
 
 returns : tie.Need-returns
-returns c = card-no-form (sym (c .before .has-form .ensures) ∙ not-true _ (c .if1 .taken))
+returns c = card-no-form (sym (c .before .is-card-line .ensures) ∙ not-true _ (c .if1 .taken))
 
 returns-2 : tie.Need-returns-2
 returns-2 c = cards-full (formed (c .before .before)) (c .if2 .taken)

@@ -12,7 +12,7 @@ use Rattle.rulebook.proofs.groups.take.Tie as tie
 
 -- the line has the form
 formed : (c : tie.Else1) → isGroupLine (c .before .before .before .args .line .now) ≡ true
-formed c = sym (c .before .has-form .ensures) ∙ not-false _ (c .if1 .left)
+formed c = sym (c .before .is-group-line .ensures) ∙ not-false _ (c .if1 .left)
 
 -- its numbers are known
 abbrev form-met : tie.After-number-at → tie.Else1
@@ -22,7 +22,7 @@ group-is : (c : tie.After-number-at) → c .before .group .result ≡ groupOf (g
 group-is c = c .before .group .ensures ∙ ap groupOf (c .before .before .byte .ensures)
 
 returns : tie.Need-returns
-returns c = group-no-form (sym (c .before .has-form .ensures) ∙ not-true _ (c .if1 .taken))
+returns c = group-no-form (sym (c .before .is-group-line .ensures) ∙ not-true _ (c .if1 .taken))
 
 returns-2 : tie.Need-returns-2
 returns-2 c = group-not-above (formed (form-met (c .before))) (rw (c .before .number-at .ensures) at (c .if2 .taken))

@@ -11,7 +11,7 @@ use Rattle.rulebook.proofs.rules.take.Tie as tie
 
 -- the line has the form
 formed : (c : tie.Else1) → isRuleLine (c .before .before .before .before .args .line .now) ≡ true
-formed c = sym (c .before .has-form .ensures) ∙ not-false _ (c .if1 .left)
+formed c = sym (c .before .before .rule-form .ensures .formed) ∙ not-false _ (c .if1 .left)
 
 -- the place where the owner is known, before question 6 is met
 abbrev owner : tie.Else2 → tie.After-number-at
@@ -21,7 +21,7 @@ above : (c : tie.Else2) → numberAt (owner c .before .before .before .before .b
 above c = rw (owner c .number-at .ensures) at (c .if2 .left)
 
 returns : tie.Need-returns
-returns c = rule-no-form (sym (c .before .has-form .ensures) ∙ not-true _ (c .if1 .taken))
+returns c = rule-no-form (sym (c .before .before .rule-form .ensures .formed) ∙ not-true _ (c .if1 .taken))
 
 returns-2 : tie.Need-returns-2
 returns-2 c = rule-not-above (formed (c .before .before .before)) (rw (c .before .before .number-at .ensures) at (c .if2 .taken))
@@ -38,7 +38,6 @@ pub take-spec : {M : Type 1} → statement M
 take-spec =
     tie.close
     (tie.spec
-    (λ c κs. search needs)
     (λ c κs. search needs)
     returns
     (λ c κs. search needs)

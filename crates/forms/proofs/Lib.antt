@@ -1,0 +1,3 @@
+pub mod Digits
+mod Counts
+mod Short
