@@ -20,7 +20,8 @@ use Rattle.model.proofs.Tests.{both-true, cond-cong, within-true}
 use Rattle.model.proofs.Places.{upTo-length, upTo-at}
 use Rattle.model.proofs.Soundness.{unclaimed, unclaimed-set, all-claimed}
 use Rattle.rulebook.specs.View.{ruleView, rowAt}
-use Rattle.judge.specs.Parts.{Parts, Limited, bookWith, transfers}
+use Rattle.transfers.specs.View.{transfers}
+use Rattle.judge.specs.Parts.{Parts, Limited, bookWith}
 use Rattle.judge.specs.Rows.{below, ownerOf, headOf, cardsFit}
 use Rattle.judge.specs.Records.{isClaimable, isLinked, ruleTests, recordTests}
 use Rattle.judge.proofs.Letters.{fits≡}

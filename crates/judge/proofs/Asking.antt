@@ -10,7 +10,8 @@ use Rattle.model.specs.Transfers.{transferAt}
 use Rattle.model.specs.Proof.{next, claim, ruleNumber}
 use Rattle.model.proofs.Questions.{unmet-append}
 use Rattle.rulebook.specs.View.{rowAt}
-use Rattle.judge.specs.Parts.{Parts, transfers}
+use Rattle.transfers.specs.View.{transfers}
+use Rattle.judge.specs.Parts.{Parts}
 use Rattle.judge.specs.Records.{isClaimable, isLinked, ruleTests, recordTests}
 
 -- a record that claims a free transfer by a rule of the book: q answers for questions 16 to 19

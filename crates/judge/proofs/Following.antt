@@ -19,7 +19,8 @@ use Rattle.model.proofs.Tests.{both-true, within-true}
 use Rattle.model.proofs.Places.{upTo-length}
 use Rattle.model.proofs.Soundness.{unclaimed, unclaimed-set, unclaimed-first}
 use Rattle.rulebook.specs.View.{rowAt}
-use Rattle.judge.specs.Parts.{Parts, Limited, bookWith, transfers}
+use Rattle.transfers.specs.View.{transfers}
+use Rattle.judge.specs.Parts.{Parts, Limited, bookWith}
 use Rattle.judge.specs.Rows.{priceCount, priceAt, pricesAt}
 use Rattle.judge.specs.Records.{isClaimable, isLinked, ruleTests, recordTests}
 use Rattle.judge.specs.Counts.{Room, Asks, isPaid}

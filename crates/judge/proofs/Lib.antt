@@ -1,7 +1,5 @@
 pub mod Slices
 pub mod Paying
-pub mod Listing
-pub mod TransferRow
 pub mod Asking
 pub mod Letters
 pub mod Marking

@@ -9,25 +9,8 @@ use lib.ListN.{length, getD}
 use Rattle.model.specs.Limits.{transferSize, exchangeLimit}
 use Rattle.model.specs.Lists.{every, upTo}
 use Rattle.model.specs.Transfers.{Transfer, Exchange, count, transferAt, exchangeOf}
-use Rattle.judge.specs.Parts.{transfers, transferOf}
+use Rattle.transfers.specs.View.{transfers, transferOf}
 use Rattle.judge.specs.Rows.{below}
-use Rattle.judge.specs.declared.transfers.Transfer as declared
-
--- ---- the exchange read into a list
-
-abbrev pub zeros : declared.Transfer
-zeros = record { giver = 0; kind = 0; receiver = 0 }
-
--- the program's transfers as the model's
-abbrev pub transfersOf : List declared.Transfer → Exchange
-transfersOf list = map transferOf list
-
--- 32 transfers, the first i of which are the exchange's
-pub record Listed (e : List ℕ) (i : ℕ) (list : List declared.Transfer) : Type 0 where
-  pub size : length list ≡ exchangeLimit / transferSize
-  pub each : (j : ℕ) → j < i → transferOf (getD list j zeros) ≡ transferAt e j
-
--- ---- how often a transfer is asked
 
 -- some transfer of the exchange is t
 abbrev pub occurs : List ℕ → Transfer → Bool

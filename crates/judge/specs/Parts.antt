@@ -15,7 +15,6 @@ use Rattle.model.specs.Proof.{judge}
 use Rattle.answers.specs.declared.Answer.{Answer}
 use Rattle.answers.specs.View.{answerOf}
 use Rattle.rulebook.specs.View.{rowSize, bookFrom}
-use Rattle.judge.specs.declared.transfers.Transfer as declared
 
 -- the tables without the cards' lengths
 pub record Parts : Type 0 where
@@ -45,18 +44,6 @@ IsRow row = length row ≡ rowSize
 
 abbrev pub IsRecord : List ℕ → Type 0
 IsRecord r = length r ≡ recordSize
-
--- how many transfers the bytes hold
-abbrev pub transfers : List ℕ → ℕ
-transfers e = length e / transferSize
-
--- a transfer of the program as the model's
-abbrev pub transferOf : declared.Transfer → Transfer
-transferOf t = record { giver = t .giver; kind = t .kind; receiver = t .receiver }
-
--- question 13 of a transfer, n cards being declared
-abbrev pub isProperOf : ℕ → Transfer → Bool
-isProperOf n t = (within (t .giver) n && within (t .receiver) n) && (not (eqb (t .giver) (t .receiver)) && isKind (t .kind))
 
 -- a proof that question 14 passes
 pub record Recorded (p : List ℕ) : Type 0 where

@@ -10,7 +10,8 @@ use Rattle.model.specs.Questions.{Question, _⇒_}
 use Rattle.model.specs.Transfers.{Transfer, transferAt}
 use Rattle.model.specs.Proof.{next, claim, ruleNumber}
 use Rattle.rulebook.specs.View.{rowAt}
-use Rattle.judge.specs.Parts.{Parts, transfers}
+use Rattle.transfers.specs.View.{transfers}
+use Rattle.judge.specs.Parts.{Parts}
 use Rattle.judge.specs.Rows.{ownerOf, cardsFit, allPayable, allHold}
 
 -- question 15 of transfer number k among n

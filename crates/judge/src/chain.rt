@@ -1,5 +1,5 @@
 // The chain of records from record 1, each question asked with a note of what was claimed, then question 21.
-use crate::limits;
+use crate::layout;
 use crate::prices::ask_prices;
 use crate::prices::is_paid;
 use crate::records::question;
@@ -21,8 +21,8 @@ pub(crate) fn follow<'a>(
     requires { ⌜ (Short (now exchange)) × (Recorded (now proof)) ⌝ }
     ensures { λ r. ⌜ Follows (parts cards (now (digits .entry)) (now (groups .entry)) rules (now (rows .entry))) (now (exchange .entry)) (now (proof .entry)) r ⌝ }
 {
-    let records = proof.len() / limits::RECORD_SIZE;
-    let mut left = exchange.len() / limits::TRANSFER_SIZE;
+    let records = proof.len() / layout::RECORD_SIZE;
+    let mut left = exchange.len() / layout::TRANSFER_SIZE;
     let mut marks = [false; 32];
     let mut counts = [0; 32];
     let mut missing = false;
@@ -46,12 +46,12 @@ pub(crate) fn follow<'a>(
         if q != 0 {
             return Answer::Refused(q, at as u32 + 1);
         }
-        let claimed = rec[limits::CLAIM] as usize - 1;
+        let claimed = rec[layout::CLAIM] as usize - 1;
         marks[claimed] = true;
-        let row = row_at(rows, rec[limits::RULE]);
+        let row = row_at(rows, rec[layout::RULE]);
         let found = ask_prices(exchange, row, rec, &mut counts);
         missing = missing | !found;
-        next = rec[limits::NEXT] as usize;
+        next = rec[layout::NEXT] as usize;
     }
     if !is_paid(exchange, &counts, missing) {
         return Answer::Refused(answers::PRICE_UNPAID, 0);

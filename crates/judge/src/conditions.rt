@@ -1,8 +1,6 @@
 // Question 19: groups and issuer prefixes.
-use crate::limits;
-use crate::tables::at_most;
+use crate::layout;
 use crate::tables::card_of;
-use crate::tables::is_within;
 ghost use mathlib.Core.Path.{_≡_};
 ghost use Prim.Native.Nat.{_≤_, _<_};
 ghost use Rattle.model.specs.Limits.{cardLimit, conditionLimit, prefixLength};
@@ -14,10 +12,10 @@ ghost use Rattle.judge.specs.Parts.{IsRow, IsRecord};
 fn is_member(groups: &[u8; 256], group: u8, card: u8) -> bool
     ensures { λ r. ⌜ r ≡ memberView (now (groups .entry)) group card ⌝ }
 {
-    if !(is_within(group, limits::GROUP_COUNT) & is_within(card, limits::CARD_LIMIT)) {
+    if !(limits::is_within(group, limits::GROUP_COUNT) & limits::is_within(card, limits::CARD_LIMIT)) {
         return false;
     }
-    let at = (card as usize - 1) * limits::GROUP_COUNT as usize + (group as usize - 1);
+    let at = (card as usize - 1) * layout::GROUP_COUNT + (group as usize - 1);
     groups[at] != 0
 }
 
@@ -26,9 +24,9 @@ fn same_digits(digits: &[u8; 608], a: u8, b: u8) -> bool
     requires { ⌜ ((1 ≤ a) × (a ≤ cardLimit)) × ((1 ≤ b) × (b ≤ cardLimit)) ⌝ }
     ensures { λ r. ⌜ r ≡ every (sameDigit (now (digits .entry)) a b) (below prefixLength) ⌝ }
 {
-    let p = (a as usize - 1) * limits::MOST_DIGITS;
-    let q = (b as usize - 1) * limits::MOST_DIGITS;
-    for i in 0..limits::PREFIX_LENGTH {
+    let p = (a as usize - 1) * layout::MOST_DIGITS;
+    let q = (b as usize - 1) * layout::MOST_DIGITS;
+    for i in 0..layout::PREFIX_LENGTH {
         if digits[p + i] != digits[q + i] {
             return false;
         }
@@ -40,8 +38,8 @@ fn same_prefix(cards: u8, digits: &[u8; 608], a: u8, b: u8) -> bool
     requires { ⌜ cards ≤ cardLimit ⌝ }
     ensures { λ r. ⌜ r ≡ samePrefixOf cards (now (digits .entry)) a b ⌝ }
 {
-    let first = is_within(a, cards);
-    let second = is_within(b, cards);
+    let first = limits::is_within(a, cards);
+    let second = limits::is_within(b, cards);
     if first & second {
         return same_digits(digits, a, b);
     }
@@ -59,12 +57,12 @@ fn condition_holds<'a>(
     requires { ⌜ (cards ≤ cardLimit) × (IsRow (now row)) × (IsRecord (now rec)) × (i < conditionLimit) ⌝ }
     ensures { λ r. ⌜ r ≡ conditionHolds cards (now (digits .entry)) (now (groups .entry)) (now (row .entry)) (now (rec .entry)) i ⌝ }
 {
-    let at = i * limits::ENTRY_SIZE;
-    let owner = row[limits::OWNER];
-    let group = row[limits::GROUP + at];
-    let second = card_of(rec, owner, row[limits::SECOND_NAME + at]);
+    let at = i * layout::ENTRY_SIZE;
+    let owner = row[layout::OWNER];
+    let group = row[layout::GROUP + at];
+    let second = card_of(rec, owner, row[layout::SECOND_NAME + at]);
     if group == 0 {
-        let first = card_of(rec, owner, row[limits::FIRST_NAME + at]);
+        let first = card_of(rec, owner, row[layout::FIRST_NAME + at]);
         return same_prefix(cards, digits, first, second);
     }
     is_member(groups, group, second)
@@ -81,7 +79,7 @@ pub(crate) fn all_hold<'a>(
     requires { ⌜ (cards ≤ cardLimit) × (IsRow (now row)) × (IsRecord (now rec)) ⌝ }
     ensures { λ r. ⌜ r ≡ allHold cards (now (digits .entry)) (now (groups .entry)) (now (row .entry)) (now (rec .entry)) ⌝ }
 {
-    let n = at_most(row[limits::CONDITIONS], limits::CONDITION_LIMIT) as usize;
+    let n = limits::at_most(row[layout::CONDITIONS], limits::CONDITION_LIMIT) as usize;
     for i in 0..n {
         if !condition_holds(cards, digits, groups, row, rec, i) {
             return false;

@@ -1,17 +1,16 @@
 // An exchange and its proof judged over a rulebook's flat tables: questions 12 to 21 of document 01.
-// Modules: `transfers` asks 12 to 14, `records` 15, 16 and 20, `variables` 17, `prices` 18 and 21, `conditions` 19;
-// `exchange` counts transfers for 21, and `chain` takes the records in turn.
+// Modules: `sizes` asks 12 and 14 (crate transfers 13), `records` 15, 16 and 20, `variables` 17, `prices` 18 and 21, `conditions` 19;
+// `chain` takes the records in turn.
 //
 // The tables come as their parts (rulebook::Tables without the lengths of the cards, which no question needs), so that a caller
 // lends what it has and nothing is copied. Any value of them is taken: counts past their limit are cut to it.
 mod chain;
 mod conditions;
-mod exchange;
-mod limits;
+mod layout;
 mod prices;
 mod records;
+mod sizes;
 mod tables;
-mod transfers;
 mod variables;
 
 use answers::Answer;
@@ -29,17 +28,17 @@ pub fn judge<'a>(
 ) -> Answer
     ensures { λ r. ⌜ Judges cards (now (digits .entry)) (now (groups .entry)) rules (now (rows .entry)) (now (exchange .entry)) (now (proof .entry)) r ⌝ }
 {
-    if !transfers::is_sized(exchange, limits::TRANSFER_SIZE, limits::EXCHANGE_LIMIT) {
+    if !sizes::is_sized(exchange, layout::TRANSFER_SIZE, layout::EXCHANGE_LIMIT) {
         return Answer::Refused(answers::EXCHANGE_SIZE, 0);
     }
-    let declared = tables::at_most(cards, limits::CARD_LIMIT);
+    let declared = limits::at_most(cards, limits::CARD_LIMIT);
     let bad = transfers::first_improper(declared, exchange);
     if bad != 0 {
         return Answer::Refused(answers::BAD_TRANSFER, bad as u32);
     }
-    if !transfers::is_sized(proof, limits::RECORD_SIZE, limits::PROOF_LIMIT) {
+    if !sizes::is_sized(proof, layout::RECORD_SIZE, layout::PROOF_LIMIT) {
         return Answer::Refused(answers::PROOF_SIZE, 0);
     }
-    let written = tables::at_most(rules, limits::RULE_LIMIT);
+    let written = limits::at_most(rules, limits::RULE_LIMIT);
     chain::follow(declared, digits, groups, written, rows, exchange, proof)
 }

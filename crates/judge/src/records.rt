@@ -1,17 +1,17 @@
 // Questions 15 to 20 of one proof record. Each function answers the number of the first that is not met, or 0.
 use crate::conditions::all_hold;
-use crate::limits;
+use crate::layout;
 use crate::prices::all_payable;
-use crate::tables::is_within;
 use crate::tables::row_at;
-use crate::transfers::Transfer;
-use crate::transfers::transfer_at;
 use crate::variables::cards_fit;
+use transfers::Transfer;
+use transfers::transfer_at;
 ghost use mathlib.Core.Path.{_≡_};
 ghost use Prim.Native.Nat.{_≤_};
 ghost use Rattle.model.specs.Limits.{cardLimit};
 ghost use Rattle.model.specs.Questions.{firstUnmet};
-ghost use Rattle.judge.specs.Parts.{IsRow, IsRecord, Short, parts, Limited, transferOf};
+ghost use Rattle.transfers.specs.View.{transferOf};
+ghost use Rattle.judge.specs.Parts.{IsRow, IsRecord, Short, parts, Limited};
 ghost use Rattle.judge.specs.Records.{isClaimable, isLinked, ruleTests, recordTests};
 
 // Question 15: the transfer is one of n, and not claimed yet.
@@ -50,8 +50,8 @@ fn rule_question<'a>(
     requires { ⌜ (cards ≤ cardLimit) × (IsRow (now row)) × (IsRecord (now rec)) ⌝ }
     ensures { λ r. ⌜ r ≡ firstUnmet (ruleTests cards (now (digits .entry)) (now (groups .entry)) (now (row .entry)) (now (rec .entry)) (transferOf claimed)) ⌝ }
 {
-    let owner = row[limits::OWNER];
-    let kind = row[limits::KIND];
+    let owner = row[layout::OWNER];
+    let kind = row[layout::KIND];
     if !((owner == claimed.giver) & (kind == claimed.kind)) {
         return answers::WRONG_RULE;
     }
@@ -84,13 +84,13 @@ pub(crate) fn question<'a>(
     requires { ⌜ (Short (now exchange)) × (IsRecord (now rec)) ⌝ }
     ensures { λ r. ⌜ r ≡ firstUnmet (recordTests (parts cards (now (digits .entry)) (now (groups .entry)) rules (now (rows .entry))) (now (exchange .entry)) (now (rec .entry)) (now (marks .entry)) left records) ⌝ }
 {
-    let n = exchange.len() / limits::TRANSFER_SIZE;
-    let claim = rec[limits::CLAIM];
+    let n = exchange.len() / layout::TRANSFER_SIZE;
+    let claim = rec[layout::CLAIM];
     if !is_claimable(marks, n, claim) {
         return answers::BAD_CLAIM;
     }
-    let number = rec[limits::RULE];
-    if !is_within(number, rules) {
+    let number = rec[layout::RULE];
+    if !limits::is_within(number, rules) {
         return answers::WRONG_RULE;
     }
     let row = row_at(rows, number);
@@ -99,7 +99,7 @@ pub(crate) fn question<'a>(
     if q != 0 {
         return q;
     }
-    if !is_linked(left, rec[limits::NEXT], records) {
+    if !is_linked(left, rec[layout::NEXT], records) {
         return answers::BAD_LINK;
     }
     0

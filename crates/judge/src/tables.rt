@@ -1,5 +1,5 @@
-// What the tables and the proof's bytes say: numbers within bounds, a rule's row, a record, a name's card.
-use crate::limits;
+// What the tables and the proof's bytes say: a rule's row, a record, a name's card.
+use crate::layout;
 ghost use mathlib.Core.Path.{_≡_};
 ghost use Prim.Native.Nat.{_+_, _-_, _*_, _≤_, min};
 ghost use lib.ListN.{length};
@@ -10,30 +10,14 @@ ghost use Rattle.model.specs.Proof.{cards, recordAt};
 ghost use Rattle.rulebook.specs.View.{nameView, rowAt};
 ghost use Rattle.judge.specs.Parts.{IsRow, IsRecord};
 
-// Whether n is one of 1 to m.
-pub(crate) fn is_within(n: u8, m: u8) -> bool
-    ensures { λ r. ⌜ r ≡ within n m ⌝ }
-{
-    (1 <= n) & (n <= m)
-}
-
-pub(crate) fn at_most(n: u8, most: u8) -> u8
-    ensures { λ r. ⌜ r ≡ min n most ⌝ }
-{
-    if n <= most {
-        return n;
-    }
-    most
-}
-
 // The row of rule `number`.
 pub(crate) fn row_at<'a>(rows: &'a [u8; 1792], number: u8) -> &'a [u8]
     requires { ⌜ (1 ≤ number) × (number ≤ ruleLimit) ⌝ }
     ensures { λ r. ⌜ (now r ≡ rowAt (now (rows .entry)) (number - 1)) × (IsRow (now r)) ⌝ }
 {
     let all = &rows[..];
-    let from = (number as usize - 1) * limits::ROW_SIZE;
-    let to = from + limits::ROW_SIZE;
+    let from = (number as usize - 1) * layout::ROW_SIZE;
+    let to = from + layout::ROW_SIZE;
     &all[from..to]
 }
 
@@ -42,8 +26,8 @@ pub(crate) fn record_at<'a>(proof: &'a [u8], i: usize) -> &'a [u8]
     requires { ⌜ i * recordSize + recordSize ≤ length (now proof) ⌝ }
     ensures { λ r. ⌜ (now r ≡ recordAt (now (proof .entry)) (i + 1)) × (IsRecord (now r)) ⌝ }
 {
-    let from = i * limits::RECORD_SIZE;
-    let to = from + limits::RECORD_SIZE;
+    let from = i * layout::RECORD_SIZE;
+    let to = from + layout::RECORD_SIZE;
     &proof[from..to]
 }
 
@@ -53,7 +37,7 @@ pub(crate) fn card_of(rec: &[u8], owner: u8, name: u8) -> u8
     ensures { λ r. ⌜ r ≡ cardOf owner (cards (now (rec .entry))) (nameView name) ⌝ }
 {
     if name < limits::VARIABLE_COUNT {
-        let at = limits::CARDS + name as usize;
+        let at = layout::CARDS + name as usize;
         return rec[at];
     }
     owner

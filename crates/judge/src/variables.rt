@@ -1,7 +1,5 @@
 // Question 17 of a record's variables: which of a to h the rule uses, and that each has a fitting card.
-use crate::limits;
-use crate::tables::at_most;
-use crate::tables::is_within;
+use crate::layout;
 ghost use mathlib.Core.Path.{_≡_};
 ghost use mathlib.Core.Bool.{cond};
 ghost use Prim.Native.Nat.{_<_};
@@ -27,19 +25,19 @@ fn mark_price(row: &[u8], i: usize, marks: &mut [bool; 8])
     requires { ⌜ (IsRow (now row)) × (i < priceLimit) × (length (now marks) ≡ variableCount) ⌝ }
     ensures { λ _. ⌜ Marks (λ v. inPrice (now (row .entry)) v i) (now (marks .entry)) (now (marks .exit)) ⌝ }
 {
-    let at = i * limits::ENTRY_SIZE;
+    let at = i * layout::ENTRY_SIZE;
     mark(
         marks,
-        row[limits::PRICE_GIVER + at] % limits::VARIABLE_COUNT,
+        row[layout::PRICE_GIVER + at] % limits::VARIABLE_COUNT,
     );
-    mark(marks, row[limits::PRICE_RECEIVER + at]);
+    mark(marks, row[layout::PRICE_RECEIVER + at]);
 }
 
 fn mark_prices(row: &[u8], marks: &mut [bool; 8])
     requires { ⌜ (IsRow (now row)) × (length (now marks) ≡ variableCount) ⌝ }
     ensures { λ _. ⌜ Marks (λ v. any (inPrice (now (row .entry)) v) (below (priceCount (now (row .entry))))) (now (marks .entry)) (now (marks .exit)) ⌝ }
 {
-    let n = at_most(row[limits::PRICES], limits::PRICE_LIMIT) as usize;
+    let n = limits::at_most(row[layout::PRICES], limits::PRICE_LIMIT) as usize;
     for i in 0..n {
         mark_price(row, i, marks);
     }
@@ -49,19 +47,19 @@ fn mark_condition(row: &[u8], i: usize, marks: &mut [bool; 8])
     requires { ⌜ (IsRow (now row)) × (i < conditionLimit) × (length (now marks) ≡ variableCount) ⌝ }
     ensures { λ _. ⌜ Marks (λ v. inCondition (now (row .entry)) v i) (now (marks .entry)) (now (marks .exit)) ⌝ }
 {
-    let at = i * limits::ENTRY_SIZE;
-    mark(marks, row[limits::SECOND_NAME + at]);
-    if row[limits::GROUP + at] != 0 {
+    let at = i * layout::ENTRY_SIZE;
+    mark(marks, row[layout::SECOND_NAME + at]);
+    if row[layout::GROUP + at] != 0 {
         return;
     }
-    mark(marks, row[limits::FIRST_NAME + at]);
+    mark(marks, row[layout::FIRST_NAME + at]);
 }
 
 fn mark_conditions(row: &[u8], marks: &mut [bool; 8])
     requires { ⌜ (IsRow (now row)) × (length (now marks) ≡ variableCount) ⌝ }
     ensures { λ _. ⌜ Marks (λ v. any (inCondition (now (row .entry)) v) (below (conditionCount (now (row .entry))))) (now (marks .entry)) (now (marks .exit)) ⌝ }
 {
-    let n = at_most(row[limits::CONDITIONS], limits::CONDITION_LIMIT) as usize;
+    let n = limits::at_most(row[layout::CONDITIONS], limits::CONDITION_LIMIT) as usize;
     for i in 0..n {
         mark_condition(row, i, marks);
     }
@@ -73,7 +71,7 @@ fn used(row: &[u8]) -> [bool; 8]
     ensures { λ r. ⌜ Used (now (row .entry)) r ⌝ }
 {
     let mut marks = [false; 8];
-    mark(&mut marks, row[limits::HEAD] % limits::VARIABLE_COUNT);
+    mark(&mut marks, row[layout::HEAD] % limits::VARIABLE_COUNT);
     mark_prices(row, &mut marks);
     mark_conditions(row, &mut marks);
     marks
@@ -84,7 +82,7 @@ fn card_fits(cards: u8, card: u8, used: bool) -> bool
     ensures { λ r. ⌜ r ≡ cond used (within card cards) (eqb card 0) ⌝ }
 {
     if used {
-        return is_within(card, cards);
+        return limits::is_within(card, cards);
     }
     card == 0
 }
@@ -95,7 +93,7 @@ fn variables_fit(cards: u8, row: &[u8], rec: &[u8]) -> bool
 {
     let marks = used(row);
     for v in 0..limits::VARIABLE_COUNT as usize {
-        if !card_fits(cards, rec[limits::CARDS + v], marks[v]) {
+        if !card_fits(cards, rec[layout::CARDS + v], marks[v]) {
             return false;
         }
     }
@@ -107,6 +105,6 @@ pub(crate) fn cards_fit(cards: u8, row: &[u8], rec: &[u8], receiver: u8) -> bool
     requires { ⌜ (IsRow (now row)) × (IsRecord (now rec)) ⌝ }
     ensures { λ r. ⌜ r ≡ cardsFit cards (now (row .entry)) (now (rec .entry)) receiver ⌝ }
 {
-    let head = limits::CARDS + (row[limits::HEAD] % limits::VARIABLE_COUNT) as usize;
-    ((rec[limits::ZERO] == 0) & (rec[head] == receiver)) & variables_fit(cards, row, rec)
+    let head = layout::CARDS + (row[layout::HEAD] % limits::VARIABLE_COUNT) as usize;
+    ((rec[layout::ZERO] == 0) & (rec[head] == receiver)) & variables_fit(cards, row, rec)
 }

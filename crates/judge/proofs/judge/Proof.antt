@@ -56,7 +56,7 @@ at-most-requires : tie.Need-at-most-requires
 at-most-requires c κs = search needs
 
 first-improper-requires : tie.Need-first-improper-requires
-first-improper-requires c κs = short (start12′ (c .before) .args .exchange .now) (met12 (c .before))
+first-improper-requires c κs = search needs
 
 cast-t13 : tie.Need-cast-t13
 cast-t13 c =

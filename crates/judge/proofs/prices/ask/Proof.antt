@@ -5,8 +5,10 @@ use Prim.Native.Nat.{_-_, _≤_}
 use mathlib.Core.Path.{_≡_, refl, sym, _∙_}
 use Rattle.model.specs.Lists.{upTo}
 use Rattle.model.specs.Transfers.{same, count, transferAt}
-use Rattle.judge.specs.Parts.{transferOf}
-use Rattle.judge.proofs.Paying.{same-equal, absent-more, asks-nobody, asks-first}
+use Rattle.transfers.specs.View.{transferOf}
+use Rattle.model.proofs.Counting.{same-equal}
+use Rattle.transfers.proofs.Listing.{here}
+use Rattle.judge.proofs.Paying.{absent-more, asks-nobody, asks-first}
 use Rattle.judge.proofs.prices.ask.Statement.{statement}
 use Rattle.judge.proofs.prices.ask.Tie as tie
 
@@ -25,7 +27,7 @@ start o = o .before .before
 -- the transfer compared is transfer j
 compared : (c : tie.After-same Inv-loop μ-loop) → let a = start (loop-of c) .args in
     c .same .result ≡ same (transferOf (a .t)) (transferAt (a .exchange .now) (loop-of c .loop .j))
-compared c = rw (c .before .transfer-at .ensures) at (c .same .ensures .0)
+compared c = rw (c .before .transfer-at .ensures ∙ here _ _ (c .before .before .loop-test .taken)) at (c .same .ensures .0)
 
 loop-holds : tie.Need-loop-holds Inv-loop μ-loop
 loop-holds c = (search needs, refl, refl)

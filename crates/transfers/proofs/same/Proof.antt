@@ -2,8 +2,8 @@
 use native.Mathlib.Omega.{arith}
 use mathlib.Core.Path.{refl}
 use Rattle.model.specs.Transfers.{same, eqTransfer}
-use Rattle.judge.proofs.transfers.same.Statement.{statement}
-use Rattle.judge.proofs.transfers.same.Tie as tie
+use Rattle.transfers.proofs.same.Statement.{statement}
+use Rattle.transfers.proofs.same.Tie as tie
 
 returns : tie.Need-returns
 unfolding same eqTransfer

@@ -52,20 +52,20 @@ use denote.Triple.Walked.{says, Stays, stay-dropped, walkOf, goes-dropped, ends-
 use denote.Exit.{yes}
 use borrow.Author.Tests.{lt-ltb, le-ltb}
 use Rattle.model.specs.Transfers.{same, count}
-use Rattle.judge.specs.Parts.{transferOf}
-use Rattle.judge.specs.Counts.{zeros, transfersOf}
-use Rattle.judge.specs.declared.transfers.Transfer.{Transfer}
-use Rattle.judge.proofs.Listing.{count-next, count-all, count-small}
-use Rattle.judge.proofs.TransferRow.{R, struct, mach, vals, tells, makes, lawful, copy}
-use Rattle.judge.proofs.exchange.add_same as add
-use Rattle.judge.proofs.exchange.add_same.Symbol as add-def
-use Rattle.judge.proofs.exchange.add_same.Symbol.{name as #add-same}
-use Rattle.judge.proofs.exchange.add_same.Met as add-thm
-use Rattle.judge.proofs.exchange.count_equal.Key.{name as #count-equal}
-use Rattle.judge.proofs.exchange.count_equal as this
-use Rattle.judge.proofs.exchange.count_equal.Statement as stated
-use Rattle.judge.proofs.exchange.count_equal.Code as code
-use Rattle.judge.proofs.exchange.count_equal.Code.Mir as body
+use Rattle.transfers.specs.View.{transferOf}
+use Rattle.transfers.specs.View.{zeros, transfersOf}
+use Rattle.transfers.specs.declared.Transfer.{Transfer}
+use Rattle.transfers.proofs.Listing.{count-next, count-all, count-small}
+use Rattle.transfers.proofs.TransferRow.{R, struct, mach, vals, tells, makes, lawful, copy}
+use Rattle.transfers.proofs.add_same as add
+use Rattle.transfers.proofs.add_same.Symbol as add-def
+use Rattle.transfers.proofs.add_same.Symbol.{name as #add-same}
+use Rattle.transfers.proofs.add_same.Met as add-thm
+use Rattle.transfers.proofs.count_equal.Key.{name as #count-equal}
+use Rattle.transfers.proofs.count_equal as this
+use Rattle.transfers.proofs.count_equal.Statement as stated
+use Rattle.transfers.proofs.count_equal.Code as code
+use Rattle.transfers.proofs.count_equal.Code.Mir as body
 
 abbrev word : Ty
 word = tyInt w64
@@ -300,4 +300,4 @@ count-equal-spec 𝓤 H 𝓜 𝓖 𝓡 =
     entered 𝓤 H (tripleOf 𝓤 H (𝓖 .A) this.signature (this.spec 𝓤 H (𝓖 .A) (𝓜 .mem) (𝓡 .run)))
     (tables 𝓤 H 𝓜 𝓡 code.env .C) (tables 𝓤 H 𝓜 𝓡 code.env .Λ) #count-equal code.function (code.unfolded 𝓤 H 𝓜 𝓡)
     (meets 𝓤 H (𝓖 .A) (givenOf 𝓤 H 𝓜 𝓖) (𝓜 .mem) (𝓡 .run) (tablesOf 𝓤 H 𝓜 (tables 𝓤 H 𝓜 𝓡 code.env))
-    (cited 𝓤 H (Add 𝓤 H (𝓖 .A) (𝓜 .mem) (𝓡 .run)) 𝓜 𝓡 code.env #add-same add-def.routine code.calls-judge·exchange·add-same (add-thm.met 𝓤 H 𝓜 𝓖 𝓡)))
+    (cited 𝓤 H (Add 𝓤 H (𝓖 .A) (𝓜 .mem) (𝓡 .run)) 𝓜 𝓡 code.env #add-same add-def.routine code.calls-transfers·add-same (add-thm.met 𝓤 H 𝓜 𝓖 𝓡)))

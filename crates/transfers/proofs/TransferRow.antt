@@ -9,9 +9,9 @@ use types.Kit.{Given}
 use denote.RattleType.{RattleType}
 use denote.Laws.{Is, Tells, Makes, Lawful, Copy}
 use denote.Struct.Laws as LL
-use Rattle.judge.specs.declared.transfers.Transfer.{Transfer}
-use Rattle.judge.proofs.transfers.Transfer as T
-use Rattle.judge.proofs.transfers.Transfer.Laws as T′
+use Rattle.transfers.specs.declared.Transfer.{Transfer}
+use Rattle.transfers.proofs.Transfer as T
+use Rattle.transfers.proofs.Transfer.Laws as T′
 
 abbrev pub R : RattleType
 R = T.the-row

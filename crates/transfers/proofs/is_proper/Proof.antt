@@ -1,7 +1,7 @@
 -- The four tests of the question.
 use borrow.Author.Needs.{needs}
-use Rattle.judge.proofs.transfers.is_proper.Statement.{statement}
-use Rattle.judge.proofs.transfers.is_proper.Tie as tie
+use Rattle.transfers.proofs.is_proper.Statement.{statement}
+use Rattle.transfers.proofs.is_proper.Tie as tie
 
 is-within-requires : tie.Need-is-within-requires
 is-within-requires c κs = search needs

@@ -7,10 +7,11 @@ use mathlib.Core.Path.{_≡_, sym, _∙_, ap}
 use mathlib.Core.Bool.{true}
 use Rattle.model.specs.Lists.{every, upTo}
 use Rattle.model.specs.Transfers.{transferAt, exchangeOf}
-use Rattle.judge.specs.Parts.{isProperOf}
+use Rattle.transfers.specs.View.{isProperOf}
 use Rattle.model.proofs.Loops.{every-more, failing-end, failing-stop}
-use Rattle.judge.proofs.transfers.first_improper.Statement.{statement}
-use Rattle.judge.proofs.transfers.first_improper.Tie as tie
+use Rattle.transfers.proofs.Listing.{here}
+use Rattle.transfers.proofs.first_improper.Statement.{statement}
+use Rattle.transfers.proofs.first_improper.Tie as tie
 
 abbrev Inv-loop : tie.InvT-loop
 Inv-loop cards exchange n i₀ i = (i ≤ n) × (every (isProperOf cards) (upTo (transferAt exchange) i) ≡ true)
@@ -26,7 +27,7 @@ tested : (c : tie.After-is-proper Inv-loop μ-loop)
     → let o = c .before .before .before in let a = start o .args in
     isProperOf (a .cards) (transferAt (a .exchange .now) (o .loop .i)) ≡ c .is-proper .result
 tested c =
-    sym (c .is-proper .ensures ∙ ap (isProperOf (start (c .before .before .before) .args .cards)) (c .before .transfer-at .ensures))
+    sym (c .is-proper .ensures ∙ ap (isProperOf (start (c .before .before .before) .args .cards)) (c .before .transfer-at .ensures ∙ here _ _ (c .before .before .loop-test .taken)))
 
 loop-holds : tie.Need-loop-holds Inv-loop μ-loop
 loop-holds c = search needs

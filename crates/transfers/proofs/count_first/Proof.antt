@@ -53,18 +53,18 @@ use borrow.Table.Copies.{Halved}
 use borrow.Table.OneValue.{part-in}
 use borrow.Table.Owned as whole
 use Rattle.model.specs.Transfers.{count}
-use Rattle.judge.specs.Parts.{transferOf}
-use Rattle.judge.specs.Counts.{transfersOf}
-use Rattle.judge.specs.declared.transfers.Transfer.{Transfer}
-use Rattle.judge.proofs.TransferRow.{R, struct, mach, vals, tells, makes, lawful, copy}
-use Rattle.judge.proofs.exchange.count_equal as equal
-use Rattle.judge.proofs.exchange.count_equal.Symbol as equal-def
-use Rattle.judge.proofs.exchange.count_equal.Symbol.{name as #count-equal}
-use Rattle.judge.proofs.exchange.count_equal.Met as equal-thm
-use Rattle.judge.proofs.exchange.count_in.Key.{name as #count-in}
-use Rattle.judge.proofs.exchange.count_in as this
-use Rattle.judge.proofs.exchange.count_in.Statement as stated
-use Rattle.judge.proofs.exchange.count_in.Code as code
+use Rattle.transfers.specs.View.{transferOf}
+use Rattle.transfers.specs.View.{transfersOf}
+use Rattle.transfers.specs.declared.Transfer.{Transfer}
+use Rattle.transfers.proofs.TransferRow.{R, struct, mach, vals, tells, makes, lawful, copy}
+use Rattle.transfers.proofs.count_equal as equal
+use Rattle.transfers.proofs.count_equal.Symbol as equal-def
+use Rattle.transfers.proofs.count_equal.Symbol.{name as #count-equal}
+use Rattle.transfers.proofs.count_equal.Met as equal-thm
+use Rattle.transfers.proofs.count_first.Key.{name as #count-first}
+use Rattle.transfers.proofs.count_first as this
+use Rattle.transfers.proofs.count_first.Statement as stated
+use Rattle.transfers.proofs.count_first.Code as code
 
 abbrev word : Ty
 word = tyInt w64
@@ -216,10 +216,10 @@ meets 𝓤 H A W mem run 𝓣 known =
     (this.clauses 𝓤 H A mem run) (WpFn 𝓤 H (𝓣 .C) (𝓣 .Λ) code.function) (WpFn-mono 𝓤 H (W .laws) 𝓣 code.function)
     (walks 𝓤 H A W mem run (𝓣 .C) (𝓣 .Λ) (fmOf 𝓤 H (W .laws) 𝓣) known)
 
-pub count-in-spec : {M : Type 1} → stated.statement M
+pub count-first-spec : {M : Type 1} → stated.statement M
 unfolding code.routine tablesOf
-count-in-spec 𝓤 H 𝓜 𝓖 𝓡 =
+count-first-spec 𝓤 H 𝓜 𝓖 𝓡 =
     entered 𝓤 H (tripleOf 𝓤 H (𝓖 .A) this.signature (this.spec 𝓤 H (𝓖 .A) (𝓜 .mem) (𝓡 .run)))
-    (tables 𝓤 H 𝓜 𝓡 code.env .C) (tables 𝓤 H 𝓜 𝓡 code.env .Λ) #count-in code.function (code.unfolded 𝓤 H 𝓜 𝓡)
+    (tables 𝓤 H 𝓜 𝓡 code.env .C) (tables 𝓤 H 𝓜 𝓡 code.env .Λ) #count-first code.function (code.unfolded 𝓤 H 𝓜 𝓡)
     (meets 𝓤 H (𝓖 .A) (givenOf 𝓤 H 𝓜 𝓖) (𝓜 .mem) (𝓡 .run) (tablesOf 𝓤 H 𝓜 (tables 𝓤 H 𝓜 𝓡 code.env))
-    (cited 𝓤 H (Count 𝓤 H (𝓖 .A) (𝓜 .mem) (𝓡 .run)) 𝓜 𝓡 code.env #count-equal equal-def.routine code.calls-judge·exchange·count-equal (equal-thm.met 𝓤 H 𝓜 𝓖 𝓡)))
+    (cited 𝓤 H (Count 𝓤 H (𝓖 .A) (𝓜 .mem) (𝓡 .run)) 𝓜 𝓡 code.env #count-equal equal-def.routine code.calls-transfers·count-equal (equal-thm.met 𝓤 H 𝓜 𝓖 𝓡)))

@@ -1,0 +1,117 @@
+-- A list of transfers by its places: what a walk over it has counted, and that the list read from an exchange begins with the
+-- model's.
+use mathlib.Core.Path.{_≡_, refl, sym, _∙_, ap}
+use mathlib.Core.List.{List, [], _∷_, _++_}
+use mathlib.Core.Logic.{⊎-elim}
+use Prim.Native.Nat.{ℕ, zero, suc, _+_, _≤_, _<_, min}
+use native.Mathlib.Omega.{arith}
+use native.Mathlib.Nat.{eq-or-lt-of-le}
+use lib.ListN.{length, getD, set, take, replicate, length-set, length-replicate, getD-replicate, List·getD-eq-default}
+use lib.Seq.{take-length, take-suc, getD-set-same, getD-set-other}
+use Rattle.model.specs.Limits.{exchangeLimit}
+use Rattle.model.specs.Lists.{upTo}
+use Rattle.model.specs.Transfers.{Transfer, same, count, transferAt, exchangeOf, noTransfer}
+use Rattle.model.proofs.Places.{upTo-length, upTo-at, upTo-cong}
+use Rattle.model.proofs.Loops.{count-more, occurs-at}
+use Rattle.model.proofs.Counting.{count-le}
+use Rattle.model.proofs.Tests.{lt-or-ge}
+use Rattle.transfers.specs.View.{transferOf, transfersOf, zeros, transfers, listSize, Listed}
+use Rattle.transfers.specs.declared.Transfer as declared
+
+-- ---- a transfer by its place
+
+-- within the exchange, and past its end
+pub here : (e : List ℕ) (i : ℕ) → i < transfers e → getD (exchangeOf e) i noTransfer ≡ transferAt e i
+unfolding exchangeOf
+here e i l = upTo-at (transferAt e) (transfers e) i noTransfer l
+
+pub past : (e : List ℕ) (i : ℕ) → transfers e ≤ i → getD (exchangeOf e) i noTransfer ≡ noTransfer
+unfolding exchangeOf
+past e i l = List·getD-eq-default (upTo (transferAt e) (transfers e)) noTransfer {n = i} (omega (arith, upTo-length (transferAt e) (transfers e)))
+
+-- ---- lists
+
+map-last : (xs : List declared.Transfer) (x : declared.Transfer) → transfersOf (xs ++ (x ∷ [])) ≡ transfersOf xs ++ (transferOf x ∷ [])
+map-last [] x = refl
+map-last (y ∷ xs) x = ap (λ (r : List Transfer). transferOf y ∷ r) (map-last xs x)
+
+module _ (xs : List declared.Transfer) where
+  abbrev placed : ℕ → Transfer
+  placed j = transferOf (getD xs j zeros)
+
+  prefix≡ : (i : ℕ) → i ≤ length xs → transfersOf (take i xs) ≡ upTo placed i
+  prefix≡ zero l = refl
+  prefix≡ (suc i) l =
+      ap transfersOf (take-suc xs i zeros l) ∙ map-last (take i xs) (getD xs i zeros) ∙ ap (λ (r : List Transfer). r ++ (placed i ∷ [])) (prefix≡ i (omega arith))
+
+  module _ (t : Transfer) where
+    pub count-next : (i : ℕ) → i < length xs → count t (transfersOf (take (i + 1) xs)) ≡ count t (transfersOf (take i xs)) + same t (placed i)
+    count-next i l = rw (prefix≡ (i + 1) (omega arith), prefix≡ i (omega arith)) (count-more t placed i)
+
+    pub count-small : (i : ℕ) → i ≤ length xs → count t (transfersOf (take i xs)) ≤ i
+    count-small i l = rw (prefix≡ i l) (omega (arith, count-le t (upTo placed i), upTo-length placed i))
+
+    pub count-all : count t (transfersOf (take (length xs) xs)) ≡ count t (transfersOf xs)
+    count-all = ap (λ (r : List declared.Transfer). count t (transfersOf r)) (take-length xs)
+
+  -- the transfer of place j stands among the first n
+  pub count-some : (n j : ℕ) → j < n → n ≤ length xs → 1 ≤ count (placed j) (transfersOf (take n xs))
+  count-some n j l k = rw (prefix≡ n k) (occurs-at placed n j l)
+
+  -- a list read from an exchange within the limit
+  module _ (e : List ℕ) (short : length e ≤ exchangeLimit) (h : Listed e xs) where
+    pub list-at : (j : ℕ) → j < transfers e → placed j ≡ transferAt e j
+    list-at j l = h .each j (omega arith) ∙ here e j l
+
+    list≡ : transfersOf (take (transfers e) xs) ≡ exchangeOf e
+    unfolding exchangeOf
+    list≡ = prefix≡ (transfers e) (omega (arith, h .size)) ∙ upTo-cong placed _ (transfers e) list-at
+
+    -- transfer j counted in the list
+    pub count≡ : (j : ℕ) → j < transfers e → count (placed j) (transfersOf (take (transfers e) xs)) ≡ count (transferAt e j) (exchangeOf e)
+    count≡ j l = rw (list-at j l, list≡)
+
+-- ---- the loop that reads, i transfers being read
+
+all-zeros : (j : ℕ) → getD (replicate 32 zeros) j zeros ≡ zeros
+all-zeros j =
+    ⊎-elim
+    (λ (l : j < 32). getD-replicate 32 j zeros zeros l)
+    (λ (l : 32 ≤ j). List·getD-eq-default (replicate 32 zeros) zeros {n = j} (omega (arith, length-replicate {A = declared.Transfer} 32 zeros)))
+    (lt-or-ge j 32)
+
+module _ (e : List ℕ) where
+  -- 32 transfers, of which those before i are the exchange's and the others zeros
+  pub record Begun (i : ℕ) (xs : List declared.Transfer) : Type 0 where
+    pub size : length xs ≡ listSize
+    pub each : (j : ℕ) → j < i → transferOf (getD xs j zeros) ≡ getD (exchangeOf e) j noTransfer
+    pub rest : (j : ℕ) → i ≤ j → transferOf (getD xs j zeros) ≡ noTransfer
+
+  pub begun-none : Begun 0 (replicate 32 zeros)
+  begun-none = record {
+    size = length-replicate {A = declared.Transfer} 32 zeros;
+    each = λ j l. absurd (omega arith);
+    rest = λ j l. ap transferOf (all-zeros j);
+  }
+
+  pub begun-more : (xs : List declared.Transfer) (i : ℕ) → Begun i xs → (x : declared.Transfer) → transferOf x ≡ getD (exchangeOf e) i noTransfer → i < 32
+      → Begun (i + 1) (set xs i x)
+  begun-more xs i h x k l = record {
+    size = length-set xs i x ∙ h .size;
+    each = λ j m.
+        ⊎-elim
+        (λ (d : j ≡ i). rw d (ap transferOf (getD-set-same xs i x zeros (omega (arith, h .size))) ∙ k))
+        (λ (d : j < i). ap transferOf (getD-set-other xs i j x zeros (λ (q : j ≡ i). omega arith)) ∙ h .each j d)
+        (eq-or-lt-of-le {n = j} {m = i} (omega arith));
+    rest = λ j m. ap transferOf (getD-set-other xs i j x zeros (λ (q : j ≡ i). omega arith)) ∙ h .rest j (omega arith);
+  }
+
+  pub begun-all : (xs : List declared.Transfer) (i : ℕ) → Begun i xs → min (transfers e) listSize ≤ i → Listed e xs
+  begun-all xs i h l = record {
+    size = h .size;
+    each = λ j m.
+        ⊎-elim
+        (λ (d : j < i). h .each j d)
+        (λ (d : i ≤ j). h .rest j d ∙ sym (past e j (omega arith)))
+        (lt-or-ge j i);
+  }
