@@ -23,6 +23,7 @@ use Rattle.transfers.specs.View.{transfers}
 use Rattle.judge.specs.Parts.{Parts, Limited, bookWith}
 use Rattle.judge.specs.Rows.{priceCount, priceAt, pricesAt}
 use Rattle.judge.specs.Records.{isClaimable, isLinked, ruleTests, recordTests}
+use Rattle.judge.specs.Notes.{Notable, Noted}
 use Rattle.judge.specs.Counts.{Room, Asks, isPaid}
 use Rattle.judge.proofs.Paying.{noCounts, asks-none, asks-more, asks-swap, counts-room, paid≡}
 use Rattle.model.proofs.Questions.{unmet-append, first-refuses}
@@ -149,12 +150,11 @@ module _ (t : Parts) (e p : List ℕ) where
           rw stopped at (g .same lengths)
 
       -- the chain has ended
-      pub going-ends : left ≤ 0 → (paid : Bool) → paid ≡ isPaid e counts missing → (lengths : List ℕ)
-          → cond paid (ok done) (refused 21 0) ≡ judge (bookWith t lengths) (exchangeOf e) p
+      pub going-ends : left ≤ 0 → (lengths : List ℕ) → cond (isPaid e counts missing) (ok done) (refused 21 0) ≡ judge (bookWith t lengths) (exchangeOf e) p
       unfolding chain
-      going-ends l paid h lengths =
+      going-ends l lengths =
           let z : left ≡ 0 = omega arith in
-          rw (h ∙ paid≡ e (g .prices) counts missing short (g .asks)) (rw z at (g .same lengths))
+          rw (paid≡ e (g .prices) counts missing short (g .asks)) (rw z at (g .same lengths))
 
       module _ (some : 0 < left) (met : q ≡ 0) where
         abbrev row : List ℕ
@@ -208,12 +208,9 @@ module _ (t : Parts) (e p : List ℕ) where
 
 -- what is known of record r, record i of the chain, once it has met its questions
 pub record Turn (t : Parts) (e p : List ℕ) (left : ℕ) (marks : List Bool) (counts : List ℕ) (missing : Bool) (r : List ℕ) : Type 0 where
-  pub size : length r ≡ 12
-  pub claim-bounds : (1 ≤ claim r) × (claim r ≤ 32)
-  pub rule-bounds : (1 ≤ ruleNumber r) × (ruleNumber r ≤ 56)
-  pub room : Room e 4 counts
-  pub on : (after : List ℕ) (found : Bool) → Asks e (pricesAt (rowAt (t .rows) (ruleNumber r - 1)) r) counts after found
-      → Going t e p (left - 1) (set marks (claim r - 1) true) after (missing || not found) (next r)
+  pub notable : Notable e r marks counts
+  pub on : {found : Bool} {marks′ : List Bool} {after : List ℕ} → Noted e (t .rows) r marks counts found marks′ after
+      → Going t e p (left - 1) marks′ after (missing || not found) (next r)
 
 pub turn-facts : (t : Parts) (e p : List ℕ) → Limited t → length e ≤ 96 → (left : ℕ) (marks : List Bool) (counts : List ℕ) (missing : Bool) (i : ℕ) (r : List ℕ)
     → Going t e p left marks counts missing i → 0 < left → r ≡ recordAt p i → length r ≡ 12 → firstUnmet (recordTests t e r marks (left - 1) (length p / 12)) ≡ 0
@@ -221,9 +218,13 @@ pub turn-facts : (t : Parts) (e p : List ℕ) → Limited t → length e ≤ 96 
 turn-facts t e p limited short left marks counts missing i r g some r≡ size met =
     let w = passed t e r marks (left - 1) (length p / 12) met in
     record {
-      size = size;
-      claim-bounds = omega (arith, w .claim-bounds);
-      rule-bounds = omega (arith, w .rule-bounds, limited .rules≤);
-      room = room t e p limited short left marks counts missing i g some;
-      on = rw r≡ (going-on t e p limited short left marks counts missing i g some (rw r≡ at met));
+      notable = record {
+        short = short;
+        size = size;
+        claim-bounds = omega (arith, w .claim-bounds);
+        rule-bounds = omega (arith, w .rule-bounds, limited .rules≤);
+        marked = g .size;
+        room = room t e p limited short left marks counts missing i g some;
+      };
+      on = λ {found} {marks′} {after} h. rw (h .claimed, r≡) (going-on t e p limited short left marks counts missing i g some (rw r≡ at met) after found (rw r≡ at (h .asked)));
     }

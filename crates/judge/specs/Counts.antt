@@ -2,14 +2,14 @@
 -- price, counted at the first of equal transfers, and one flag for a price that no transfer meets. How often it occurs is counted in the list that the exchange is read into.
 use mathlib.Core.Path.{_≡_}
 use mathlib.Core.Bool.{Bool, not, _&&_, cond}
-use mathlib.Core.List.{List, map}
+use mathlib.Core.List.{List}
 use Prim.Native.Nat.{ℕ, _+_, _/_, _≤_, _<_}
 use lib.Dec.{eqb, leb}
 use lib.ListN.{length, getD}
 use Rattle.model.specs.Limits.{transferSize, exchangeLimit}
 use Rattle.model.specs.Lists.{every, upTo}
 use Rattle.model.specs.Transfers.{Transfer, Exchange, count, transferAt, exchangeOf}
-use Rattle.transfers.specs.View.{transfers, transferOf}
+use Rattle.transfers.specs.View.{transfers}
 use Rattle.judge.specs.Rows.{below}
 
 -- some transfer of the exchange is t

@@ -1,16 +1,12 @@
 -- What the inner functions are given: the tables' parts that judging reads, with counts within their limits, and an exchange.
 use mathlib.Core.Path.{_≡_}
-use mathlib.Core.Bool.{Bool, not, _&&_}
 use mathlib.Core.List.{List}
-use Prim.Native.Nat.{ℕ, _/_, _≤_}
-use lib.Dec.{eqb}
+use Prim.Native.Nat.{ℕ, _≤_}
 use lib.ListN.{length}
-use Rattle.model.specs.Limits.{cardLimit, ruleLimit, transferSize, exchangeLimit, recordSize, proofLimit}
-use Rattle.model.specs.Lists.{within}
+use Rattle.model.specs.Limits.{cardLimit, ruleLimit, exchangeLimit, recordSize, proofLimit}
 use Rattle.model.specs.Questions.{done}
-use Rattle.model.specs.Grammar.{isKind}
 use Rattle.model.specs.Book.{Book}
-use Rattle.model.specs.Transfers.{Transfer, exchangeOf}
+use Rattle.model.specs.Transfers.{exchangeOf}
 use Rattle.model.specs.Proof.{judge}
 use Rattle.answers.specs.declared.Answer.{Answer}
 use Rattle.answers.specs.View.{answerOf}

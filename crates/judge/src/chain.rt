@@ -6,7 +6,41 @@ use crate::records::question;
 use crate::tables::record_at;
 use crate::tables::row_at;
 use answers::Answer;
+ghost use mathlib.Core.Path.{_≡_};
+ghost use mathlib.Core.Bool.{cond};
+ghost use Rattle.model.specs.Questions.{ok, refused, done};
+ghost use Rattle.answers.specs.View.{answerOf};
 ghost use Rattle.judge.specs.Parts.{Short, parts, Limited, Recorded, Follows};
+ghost use Rattle.judge.specs.Counts.{isPaid};
+ghost use Rattle.judge.specs.Notes.{Notable, Noted};
+
+// A record that meets its questions claims its transfer and asks its rule's prices; whether each of these is a transfer.
+fn note(
+    exchange: &[u8],
+    rows: &[u8; 1792],
+    rec: &[u8],
+    marks: &mut [bool; 32],
+    counts: &mut [u8; 32],
+) -> bool
+    requires { ⌜ Notable (now exchange) (now rec) (now marks) (now counts) ⌝ }
+    ensures { λ r. ⌜ Noted (now (exchange .entry)) (now (rows .entry)) (now (rec .entry)) (now (marks .entry)) (now (counts .entry)) r (now (marks .exit)) (now (counts .exit)) ⌝ }
+{
+    let claimed = rec[layout::CLAIM] as usize - 1;
+    marks[claimed] = true;
+    let row = row_at(rows, rec[layout::RULE]);
+    ask_prices(exchange, row, rec, counts)
+}
+
+// Question 21, the last.
+fn last(exchange: &[u8], counts: &[u8; 32], missing: bool) -> Answer
+    requires { ⌜ Short (now exchange) ⌝ }
+    ensures { λ r. ⌜ answerOf done r ≡ cond (isPaid (now (exchange .entry)) (now (counts .entry)) missing) (ok done) (refused 21 0) ⌝ }
+{
+    if !is_paid(exchange, counts, missing) {
+        return Answer::Refused(answers::PRICE_UNPAID, 0);
+    }
+    Answer::Done
+}
 
 pub(crate) fn follow<'a>(
     cards: u8,
@@ -17,11 +51,9 @@ pub(crate) fn follow<'a>(
     exchange: &[u8],
     proof: &[u8],
 ) -> Answer
-    requires { ⌜ Limited (parts cards (now digits) (now groups) rules (now rows)) ⌝ }
-    requires { ⌜ (Short (now exchange)) × (Recorded (now proof)) ⌝ }
+    requires { ⌜ (Limited (parts cards (now digits) (now groups) rules (now rows))) × (Short (now exchange)) × (Recorded (now proof)) ⌝ }
     ensures { λ r. ⌜ Follows (parts cards (now (digits .entry)) (now (groups .entry)) rules (now (rows .entry))) (now (exchange .entry)) (now (proof .entry)) r ⌝ }
 {
-    let records = proof.len() / layout::RECORD_SIZE;
     let mut left = exchange.len() / layout::TRANSFER_SIZE;
     let mut marks = [false; 32];
     let mut counts = [0; 32];
@@ -29,8 +61,7 @@ pub(crate) fn follow<'a>(
     let mut next: usize = 1;
     while 0 < left {
         left -= 1;
-        let at = next - 1;
-        let rec = record_at(proof, at);
+        let rec = record_at(proof, next - 1);
         let q = question(
             cards,
             digits,
@@ -41,20 +72,13 @@ pub(crate) fn follow<'a>(
             rec,
             &marks,
             left,
-            records,
+            proof.len() / layout::RECORD_SIZE,
         );
         if q != 0 {
-            return Answer::Refused(q, at as u32 + 1);
+            return Answer::Refused(q, next as u32);
         }
-        let claimed = rec[layout::CLAIM] as usize - 1;
-        marks[claimed] = true;
-        let row = row_at(rows, rec[layout::RULE]);
-        let found = ask_prices(exchange, row, rec, &mut counts);
-        missing = missing | !found;
+        missing = missing | !note(exchange, rows, rec, &mut marks, &mut counts);
         next = rec[layout::NEXT] as usize;
     }
-    if !is_paid(exchange, &counts, missing) {
-        return Answer::Refused(answers::PRICE_UNPAID, 0);
-    }
-    Answer::Done
+    last(exchange, &counts, missing)
 }

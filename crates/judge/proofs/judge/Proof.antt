@@ -80,7 +80,8 @@ follow-requires : tie.Need-follow-requires
 follow-requires c κs =
     let s = start13 (c .before .before .before) in (
       record { cards≤ = omega (arith, c .before .before .before .before .before .at-most .ensures); rules≤ = omega (arith, c .at-most2 .ensures) },
-      (short (s .args .exchange .now) (met12 (c .before .before .before .before .before .before)), recorded (s .args .proof .now) (met14 (c .before))),
+      short (s .args .exchange .now) (met12 (c .before .before .before .before .before .before)),
+      recorded (s .args .proof .now) (met14 (c .before)),
     )
 
 returns-4 : tie.Need-returns-4

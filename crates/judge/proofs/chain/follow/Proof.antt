@@ -2,10 +2,9 @@
 -- gathered once (`turn`), and the needs of the turn are answered from it.
 use borrow.Author.Needs.{needs}
 use native.Mathlib.Omega.{arith}
-use borrow.Author.Tests.{not-true, not-false}
 use Prim.Native.Nat.{ℕ, _+_, _*_, _-_, _≤_}
 use mathlib.Core.Path.{_≡_, sym, _∙_}
-use mathlib.Core.Bool.{Bool, true, false, cond}
+use mathlib.Core.Bool.{cond}
 use mathlib.Core.List.{List}
 use lib.ListN.{length}
 use Rattle.model.specs.Transfers.{exchangeOf}
@@ -18,11 +17,11 @@ use Rattle.judge.proofs.chain.follow.Statement.{statement}
 use Rattle.judge.proofs.chain.follow.Tie as tie
 
 abbrev Inv-loop : tie.InvT-loop
-Inv-loop cards digits groups rules rows exchange proof records left₀ marks₀ counts₀ missing₀ next₀ left marks counts missing next =
+Inv-loop cards digits groups rules rows exchange proof left₀ marks₀ counts₀ missing₀ next₀ left marks counts missing next =
     Going (parts cards digits groups rules rows) exchange proof left marks counts missing next
 
 abbrev μ-loop : tie.MeasureT-loop
-μ-loop cards digits groups rules rows exchange proof records left₀ marks₀ counts₀ missing₀ next₀ left marks counts missing next =
+μ-loop cards digits groups rules rows exchange proof left₀ marks₀ counts₀ missing₀ next₀ left marks counts missing next =
     left
 
 abbrev tables : tie.Start Inv-loop μ-loop → Parts
@@ -35,7 +34,7 @@ start c = c .before .before .before
 here : (c : tie.In-loop Inv-loop μ-loop)
     → let n = c .before .loop .next in let p = start (c .before) .args .proof .now in
     (1 ≤ n) × (n * 12 ≤ length p) × (length p ≤ 3060)
-here c = let h = c .before .loop .inv .here (c .loop-test .taken) in (h .0, h .1, start (c .before) .pre .1 .1 .few)
+here c = let h = c .before .loop .inv .here (c .loop-test .taken) in (h .0, h .1, start (c .before) .pre .2 .few)
 
 number : (c : tie.After-record-at Inv-loop μ-loop) → let n = c .before .before .loop .next in n - 1 + 1 ≡ n
 number c = omega (arith, here (c .before))
@@ -54,28 +53,27 @@ turn c =
     let o = loop-of c .loop in
     let s = start (loop-of c) in
     let d = c .before .before .before in
-    turn-facts (tables s) (s .args .exchange .now) (s .args .proof .now) (s .pre .0) (s .pre .1 .0) (o .left) (o .marks) (o .counts) (o .missing) (o .next) (d .record-at .result .now)
+    turn-facts (tables s) (s .args .exchange .now) (s .args .proof .now) (s .pre .0) (s .pre .1) (o .left) (o .marks) (o .counts) (o .missing) (o .next) (d .record-at .result .now)
     (o .inv) (d .before .loop-test .taken) (taken d) (d .record-at .ensures .1) (sym (c .before .question .ensures) ∙ c .if1 .left)
 
--- the answer after the loop, by question 21
-ended : (c : tie.After-loop Inv-loop μ-loop) → let o = c .before .loop in let s = start (c .before) in (paid : Bool)
-    → paid ≡ isPaid (s .args .exchange .now) (o .counts) (o .missing)
-    → (lengths : List ℕ) → cond paid (ok done) (refused 21 0) ≡ judge (bookWith (tables s) lengths) (exchangeOf (s .args .exchange .now)) (s .args .proof .now)
+-- the answer after the loop is question 21's
+ended : (c : tie.After-loop Inv-loop μ-loop) → let o = c .before .loop in let s = start (c .before) in (lengths : List ℕ)
+    → cond (isPaid (s .args .exchange .now) (o .counts) (o .missing)) (ok done) (refused 21 0) ≡ judge (bookWith (tables s) lengths) (exchangeOf (s .args .exchange .now)) (s .args .proof .now)
 ended c =
     let o = c .before .loop in
     let s = start (c .before) in
-    going-ends (tables s) (s .args .exchange .now) (s .args .proof .now) (s .pre .0) (s .pre .1 .0) (o .left) (o .marks) (o .counts) (o .missing) (o .next) (o .inv) (c .loop-test .left)
+    going-ends (tables s) (s .args .exchange .now) (s .args .proof .now) (s .pre .0) (s .pre .1) (o .left) (o .marks) (o .counts) (o .missing) (o .next) (o .inv) (c .loop-test .left)
 
 loop-holds : tie.Need-loop-holds Inv-loop μ-loop
 loop-holds c =
     let s = c .before .before in
-    going-first (tables s) (s .args .exchange .now) (s .args .proof .now) (s .pre .0) (s .pre .1 .0) (s .pre .1 .1 .some)
+    going-first (tables s) (s .args .exchange .now) (s .args .proof .now) (s .pre .0) (s .pre .1) (s .pre .2 .some)
 
 sub-left : tie.Need-sub-left Inv-loop μ-loop
 sub-left c = search needs
 
-sub-at : tie.Need-sub-at Inv-loop μ-loop
-sub-at c = omega (arith, here c)
+sub-record-at : tie.Need-sub-record-at Inv-loop μ-loop
+sub-record-at c = omega (arith, here c)
 
 record-at-requires : tie.Need-record-at-requires Inv-loop μ-loop
 record-at-requires c κs = omega (arith, here c)
@@ -83,13 +81,10 @@ record-at-requires c κs = omega (arith, here c)
 question-requires : tie.Need-question-requires Inv-loop μ-loop
 question-requires c κs =
     let s = start (c .before .before .before) in
-    (s .pre .0, (s .pre .1 .0, c .before .record-at .ensures .1))
+    (s .pre .0, (s .pre .1, c .before .record-at .ensures .1))
 
-cast-t23 : tie.Need-cast-t23 Inv-loop μ-loop
-cast-t23 c = omega (arith, here (c .before .before .before .before))
-
-add-t24 : tie.Need-add-t24 Inv-loop μ-loop
-add-t24 c = omega (arith, here (c .before .before .before .before))
+cast-t20 : tie.Need-cast-t20 Inv-loop μ-loop
+cast-t20 c = omega (arith, here (c .before .before .before .before))
 
 returns : tie.Need-returns Inv-loop μ-loop
 returns c =
@@ -97,59 +92,30 @@ returns c =
     let s = start (d .before .before) in
     let o = d .before .before .loop in
     let q = rw (taken d) at (c .before .question .ensures) in
-    rw (number d, q)
-    (going-stops (tables s) (s .args .exchange .now) (s .args .proof .now) (s .pre .0) (s .pre .1 .0) (o .left) (o .marks) (o .counts) (o .missing) (o .next) (o .inv)
+    rw q
+    (going-stops (tables s) (s .args .exchange .now) (s .args .proof .now) (s .pre .0) (s .pre .1) (o .left) (o .marks) (o .counts) (o .missing) (o .next) (o .inv)
     (d .before .loop-test .taken) (λ z. c .if1 .taken (q ∙ z)))
 
-shared-slice-read-claimed : tie.Need-shared-slice-read-claimed Inv-loop μ-loop
-shared-slice-read-claimed c = omega (arith, turn (c .before) .size)
-
-cast-claimed : tie.Need-cast-claimed Inv-loop μ-loop
-cast-claimed c = omega (arith, turn (c .before) .claim-bounds)
-
-sub-claimed : tie.Need-sub-claimed Inv-loop μ-loop
-sub-claimed c = omega (arith, turn (c .before) .claim-bounds)
-
-array-write-marks : tie.Need-array-write-marks Inv-loop μ-loop
-array-write-marks c = omega (arith, turn (c .before) .claim-bounds, loop-of (c .before) .loop .inv .size)
-
-shared-slice-read-row-at : tie.Need-shared-slice-read-row-at Inv-loop μ-loop
-shared-slice-read-row-at c = omega (arith, turn (c .before .before) .size)
-
-row-at-requires : tie.Need-row-at-requires Inv-loop μ-loop
-row-at-requires c κs = turn (c .before .before) .rule-bounds
-
-ask-prices-requires : tie.Need-ask-prices-requires Inv-loop μ-loop
-ask-prices-requires c κs =
-    let d = c .before .before .before .before in
-    (start (loop-of d) .pre .1 .0, c .before .row-at .ensures .1, turn d .size, turn d .room)
+note-requires : tie.Need-note-requires Inv-loop μ-loop
+note-requires c κs = turn (c .before .before) .notable
 
 shared-slice-read-next : tie.Need-shared-slice-read-next Inv-loop μ-loop
-shared-slice-read-next c = omega (arith, turn (c .before .before .before .before .before .before) .size)
+shared-slice-read-next c = omega (arith, turn (c .before .before .before .before) .notable .size)
 
 cast-next : tie.Need-cast-next Inv-loop μ-loop
-cast-next c = omega (arith, c .shared-slice-known5 .given 0)
+cast-next c = omega (arith, c .shared-slice-known3 .given 0)
 
 loop-less : tie.Need-loop-less Inv-loop μ-loop
 loop-less c = search needs
 
 loop-again : tie.Need-loop-again Inv-loop μ-loop
-loop-again c =
-    let d = c .before .before .before .before .before .before in
-    turn d .on _ _ (rw (c .before .before .before .row-at .ensures .0) at (c .before .ask-prices .ensures))
-
-is-paid-requires : tie.Need-is-paid-requires Inv-loop μ-loop
-is-paid-requires c κs = search needs
+loop-again c = turn (c .before .before .before .before) .on (c .before .note .ensures)
 
 returns-2 : tie.Need-returns-2 Inv-loop μ-loop
-returns-2 c = ended (c .before .before .before) false (sym (not-true _ (c .if2 .taken)) ∙ c .before .is-paid .ensures)
-
-returns-3 : tie.Need-returns-3 Inv-loop μ-loop
-returns-3 c = ended (c .before .before .before) true (sym (not-false _ (c .if2 .left)) ∙ c .before .is-paid .ensures)
+returns-2 c = λ lengths. c .last .ensures ∙ ended (c .before .before) lengths
 
 pub follow-spec : {M : Type 1} → statement M
 follow-spec =
     tie.close
-    (tie.spec Inv-loop μ-loop loop-holds sub-left sub-at record-at-requires question-requires cast-t23 add-t24 returns
-    shared-slice-read-claimed cast-claimed sub-claimed array-write-marks shared-slice-read-row-at row-at-requires
-    ask-prices-requires shared-slice-read-next cast-next loop-less loop-again is-paid-requires returns-2 returns-3)
+    (tie.spec Inv-loop μ-loop loop-holds sub-left sub-record-at record-at-requires question-requires cast-t20 returns
+    note-requires shared-slice-read-next cast-next loop-less loop-again (λ c κs. search needs) returns-2)
