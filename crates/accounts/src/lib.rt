@@ -10,15 +10,15 @@ ghost use Rattle.accounts.specs.Answered.{Answered};
 ghost use Rattle.accounts.specs.Refusal.{accountRefusal};
 use answers::Reply;
 
-const CARD_LIMIT: u32 = 32;
+const CARD_LIMIT: u32 = limits::CARD_LIMIT as u32;
 
-const KIND_COUNT: u32 = 16;
+const KIND_COUNT: u32 = limits::KIND_COUNT as u32;
 
-const CARDS: usize = CARD_LIMIT as usize;
+const CARDS: usize = limits::CARD_LIMIT as usize;
 
-const KINDS: usize = KIND_COUNT as usize;
+const KINDS: usize = limits::KIND_COUNT as usize;
 
-const SUM_LIMIT: u64 = 1_000_000_000;
+const SUM_LIMIT: u64 = limits::SUM_LIMIT as u64;
 
 // The first of questions 8 and 9 that is answered no, or 0.
 fn account(cards: u8, card: u32, kind: u32) -> u8

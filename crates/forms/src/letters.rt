@@ -8,9 +8,7 @@ ghost use Rattle.forms.specs.Forms.{longest};
 const BEFORE_A: u8 = b'A' - 1;
 
 // Variables are numbered from 0, and the name `*` is numbered behind them.
-pub(crate) const VARIABLE_COUNT: u8 = 8;
-
-pub(crate) const STAR: u8 = VARIABLE_COUNT;
+pub(crate) const STAR: u8 = limits::VARIABLE_COUNT;
 
 // What says that a byte is none of the letters asked for.
 const NO_VARIABLE: u8 = 9;

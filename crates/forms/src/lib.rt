@@ -19,11 +19,11 @@ pub use rules::rule_form;
 // The numbers of document 01.
 pub const LEAST_DIGITS: usize = 12;
 
-pub const MOST_DIGITS: usize = 19;
+pub const MOST_DIGITS: usize = limits::MOST_DIGITS as usize;
 
-const PRICE_LIMIT: usize = 4;
+const PRICE_LIMIT: usize = limits::PRICE_LIMIT as usize;
 
-const CONDITION_LIMIT: usize = 4;
+const CONDITION_LIMIT: usize = limits::CONDITION_LIMIT as usize;
 
 // The bytes of a price and of a condition.
 pub const PRICE_WIDTH: usize = 8;

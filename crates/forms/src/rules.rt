@@ -5,7 +5,6 @@ use crate::PRICE_LIMIT;
 use crate::PRICE_WIDTH;
 use crate::letters;
 use crate::letters::STAR;
-use crate::letters::VARIABLE_COUNT;
 ghost use mathlib.Core.Path.{_≡_};
 ghost use Prim.Native.Nat.{_+_, _*_, _≤_};
 ghost use Rattle.model.specs.Limits.{priceLimit, conditionLimit};
@@ -28,7 +27,7 @@ fn has_price(line: &[u8], at: usize) -> bool
     let y = letters::name(ascii::byte(line, at + 7));
     let spaced = (ascii::byte(line, at + 4) == b' ') & (ascii::byte(line, at + 6) == b' ');
     letters::marked(line, at, b'<')
-        & ((w < VARIABLE_COUNT) & ((1 <= k) & ((y <= STAR) & (!(w == y) & spaced))))
+        & ((w < limits::VARIABLE_COUNT) & ((1 <= k) & ((y <= STAR) & (!(w == y) & spaced))))
 }
 
 // Whether a condition stands at a place: ` ? g z` or ` = z z`.
@@ -79,7 +78,7 @@ fn has_head(line: &[u8]) -> bool
     let p = 2 + n;
     let k = letters::kind(ascii::byte(line, p + 1));
     let v = letters::variable(ascii::byte(line, p + 3));
-    let headed = (ascii::byte(line, p + 2) == b' ') & (v < VARIABLE_COUNT);
+    let headed = (ascii::byte(line, p + 2) == b' ') & (v < limits::VARIABLE_COUNT);
     (ascii::byte(line, 1) == b' ')
         & ((1 <= n) & ((ascii::byte(line, p) == b' ') & ((1 <= k) & headed)))
 }

@@ -15,14 +15,14 @@ use answers::Answer;
 // The numbers of document 01.
 const TEXT_LIMIT: usize = 16_384;
 
-const CARD_LIMIT: usize = 32;
+const CARD_LIMIT: usize = limits::CARD_LIMIT as usize;
 
-const RULE_LIMIT: usize = 56;
+const RULE_LIMIT: usize = limits::RULE_LIMIT as usize;
 
-const GROUP_COUNT: usize = 8;
+const GROUP_COUNT: usize = limits::GROUP_COUNT as usize;
 
 // The bytes of a rule's row.
-const ROW_SIZE: usize = 32;
+const ROW_SIZE: usize = limits::ROW_SIZE as usize;
 
 // Cards, groups and rules by value. Card m's digits stand from (m - 1) * 19 on, their number at m - 1, its groups from
 // (m - 1) * 8 on, a byte 1 for each that it is in; rule r has a row of 32 bytes from (r - 1) * 32 on (specs/View.antt).

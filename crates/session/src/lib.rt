@@ -10,16 +10,11 @@ use answers::Answer;
 use answers::Reply;
 use engine::Engine;
 ghost use mathlib.Core.Path.{_≡_};
-ghost use Prim.Native.Nat.{min};
 ghost use Rattle.commands.specs.View.{Printed};
 ghost use Rattle.engine.specs.View.{bookOf};
 ghost use Rattle.session.specs.Blocks.{endSays};
 ghost use Rattle.session.specs.View.{progressOf};
 ghost use Rattle.session.specs.Contracts.{Begins, Feeds};
-
-const CARD_LIMIT: u8 = 32;
-
-const RULE_LIMIT: u8 = 56;
 
 // No answer is longer.
 const ANSWER_SIZE: usize = 32;
@@ -45,12 +40,6 @@ pub struct Fed {
     pub count: usize,
 }
 
-fn at_most(n: u8, limit: u8) -> u8
-    ensures { λ r. ⌜ r ≡ min n limit ⌝ }
-{
-    if n <= limit { n } else { limit }
-}
-
 // A rule text of any bytes: `book` cards rules, or the refusal and its line.
 pub fn begin(text: &[u8], out: &mut [u8; 32]) -> Begun
     ensures { λ r. ⌜ Begins (now (text .entry)) (now (out .entry)) (now (out .exit)) r ⌝ }
@@ -65,8 +54,8 @@ pub fn begin(text: &[u8], out: &mut [u8; 32]) -> Begun
     };
     match answer {
         Answer::Done => {
-            let cards = at_most(engine.cards, CARD_LIMIT);
-            let rules = at_most(engine.rules, RULE_LIMIT);
+            let cards = limits::at_most(engine.cards, limits::CARD_LIMIT);
+            let rules = limits::at_most(engine.rules, limits::RULE_LIMIT);
             let count = commands::put_book(cards, rules, out);
             Begun {
                 session,

@@ -1,24 +1,11 @@
 // Settling over the 512 holdings: an exchange that is judged fair is covered or not, and moves all its tokens or none.
 ghost use mathlib.Core.Path.{_≡_};
-ghost use Prim.Native.Nat.{_≤_, min};
 ghost use Rattle.settling.specs.Settles.{Settles};
 ghost use Rattle.settling.specs.Finish.{Judged, Finished};
 
 mod moves;
 
 use answers::Answer;
-
-const CARD_LIMIT: u8 = 32;
-
-// The number of cards, at most 32.
-fn clamp(cards: u8) -> usize
-    ensures { λ r. ⌜ (r ≡ min cards 32) × (r ≤ 32) ⌝ }
-{
-    if cards <= CARD_LIMIT {
-        return cards as usize;
-    }
-    CARD_LIMIT as usize
-}
 
 // A copy, which by its type has 512 numbers; of what is lent a proof cannot tell how many there are.
 fn copied(holdings: &[u32; 512]) -> [u32; 512]
@@ -37,7 +24,7 @@ fn finish(cards: u8, holdings: &mut [u32; 512], exchange: &[u8], n: usize) -> An
     if !moves::take(&mut next, exchange, n) {
         return Answer::Refused(answers::NOT_COVERED, 0);
     }
-    let count = clamp(cards);
+    let count = limits::at_most(cards, limits::CARD_LIMIT) as usize;
     // Before the receipts too, so that none overflows: a holding past the limit without them is past it with them.
     if !moves::limited(&next, count) {
         return Answer::Refused(answers::HOLDING_EXCEEDED, 0);

@@ -1,19 +1,17 @@
 // Questions 22 and 23, and the tokens moved: all gifts taken first, then all receipts added.
 ghost use mathlib.Core.Path.{_≡_};
 ghost use Prim.Native.Nat.{_<_, _≤_};
-ghost use Rattle.accounts.specs.View.{spot, Ranged};
+ghost use Rattle.accounts.specs.View.{indexOf, Ranged};
 ghost use Rattle.settling.specs.Moves.{Takable, Took, Brought, Roomy, allLimited};
 
-const KINDS: usize = 16;
+const KINDS: usize = limits::KIND_COUNT as usize;
 
-pub(crate) const TRANSFER: usize = 3;
-
-const SUM_LIMIT: u32 = 1_000_000_000;
+pub(crate) const TRANSFER: usize = limits::TRANSFER_SIZE as usize;
 
 // Where the card's holding of the kind stands.
 fn place(card: u8, kind: u8) -> usize
     requires { ⌜ Ranged card kind ⌝ }
-    ensures { λ r. ⌜ (r ≡ spot card kind) × (r < 512) ⌝ }
+    ensures { λ r. ⌜ (r ≡ indexOf card kind) × (r < 512) ⌝ }
 {
     (card as usize - 1) * KINDS + (kind as usize - 1)
 }
@@ -51,7 +49,7 @@ pub(crate) fn limited(holdings: &[u32; 512], cards: usize) -> bool
     // Every holding is asked, so that the compiler asks several at once.
     let mut all = true;
     for i in 0..cards * KINDS {
-        all = all & (holdings[i] <= SUM_LIMIT);
+        all = all & (holdings[i] <= limits::SUM_LIMIT);
     }
     all
 }
