@@ -2,21 +2,21 @@
 use mathlib.Core.Path.{_≡_, refl, sym, ap}
 use mathlib.Core.Bool.{Bool, true, false, _&&_, cond}
 use mathlib.Core.List.{List}
-use Prim.Native.Nat.{ℕ, min}
+use Prim.Native.Nat.{ℕ}
 use lib.ListN.{length, getD, replicate, length-replicate}
 use Rattle.model.specs.Limits.{cardLimit, kindCount}
 use Rattle.model.specs.Lists.{within}
 use Rattle.model.specs.Questions as model
 use Rattle.model.specs.Holdings.{noHoldings}
 use Rattle.model.specs.Calls.{Call, settle, replyTo, after}
-use Rattle.model.proofs.Places.{zeros, upTo-length}
+use Rattle.model.proofs.Places.{zeros}
 use Rattle.answers.specs.declared.Answer.the-variants as answer
 use Rattle.answers.specs.declared.Reply.{Reply}
 use Rattle.answers.specs.declared.Reply.the-variants.{Done, Refused}
 use Rattle.rulebook.specs.declared.Reading.{Reading}
+use Rattle.rulebook.proofs.Books.{card-count}
 use Rattle.rulebook.specs.Reads.{Reads}
-use Rattle.rulebook.specs.View.{bookFrom, cardView}
-use Rattle.accounts.specs.Answered.{Declares, Answered}
+use Rattle.accounts.specs.Answered.{Answered}
 use Rattle.accounts.specs.View.{spot, stateFrom}
 use Rattle.settling.specs.Settles.{Settles}
 use Rattle.settling.proofs.Outcome.{settled-after}
@@ -52,15 +52,11 @@ opens text r h = record { answers = h .answer; book = h .book; state = none-held
 abbrev pub withHoldings : Engine → List ℕ → Engine
 withHoldings e h = record { holdings = h; cards = e .cards; digits = e .digits; lengths = e .lengths; groups = e .groups; rules = e .rules; rows = e .rows }
 
-declares : (e : Engine) → Declares (e .cards) (bookOf e)
-unfolding bookFrom
-declares e = upTo-length (cardView (e .digits) (e .lengths)) (min (e .cards) cardLimit)
-
 -- issuing, redeeming and the query
 pub called : (e : Engine) (call : Call) (r : Reply) (h : List ℕ) → length (e .holdings) ≡ 512 → Answered (e .cards) (e .holdings) call r h → Answers e call r (withHoldings e h)
 called e call r h l a = record {
-  answers = a .answers (bookOf e) (declares e);
-  state = a .state (bookOf e) (declares e) l;
+  answers = a .answers (bookOf e) (card-count (e .cards) (e .digits) (e .lengths) (e .groups) (e .rules) (e .rows));
+  state = a .state (bookOf e) (card-count (e .cards) (e .digits) (e .lengths) (e .groups) (e .rules) (e .rows)) l;
   book = refl;
   size = a .size;
   refused = λ k. ap (withHoldings e) (a .refused k);

@@ -1,3 +1,4 @@
+pub mod Books
 pub mod Known
 pub mod Rows
 pub mod Grown

@@ -5,7 +5,7 @@ use mathlib.Core.List.{List, [], _∷_}
 use mathlib.Core.Logic.{⊎-elim}
 use mathlib.Core.Option.{none, some}
 use Prim.Native.Char.{code}
-use Prim.Native.Nat.{ℕ, _+_, _*_, _-_, _≤_, _<_, min}
+use Prim.Native.Nat.{ℕ, _+_, _*_, _-_, _≤_, _<_}
 use native.Mathlib.Omega.{arith}
 use native.Mathlib.Nat.{min-eq-left}
 use lib.Dec.{T, eqb, leb, ltb}
@@ -22,10 +22,11 @@ use Rattle.model.specs.Opening.{isCardNumber, lineQuestions, withLine, addLine,
 use Rattle.model.proofs.Tests.{both-true, zero-or-more}
 use Rattle.model.proofs.Places.{upTo-length}
 use Rattle.model.proofs.Questions.{numbered, first-refuses}
-use Rattle.rulebook.specs.View.{cardView, rowAt, ruleView, bookFrom, bookOf}
+use Rattle.rulebook.specs.View.{cardView, bookFrom, bookOf}
 use Rattle.rulebook.specs.Rows.{rowOf}
 use Rattle.rulebook.specs.Lines.{cardQuestions, CardTaken, GroupTaken, RuleTaken, tables, Sized, answered, Taken}
 use Rattle.rulebook.specs.declared.Tables.{Tables}
+use Rattle.rulebook.proofs.Books.{card-count, rule-count}
 use Rattle.rulebook.proofs.Rows.{row-says, row-length}
 use Rattle.rulebook.proofs.Grown.{card-grown, group-grown, rule-grown}
 use Rattle.rulebook.proofs.Forms.{grouped, headed}
@@ -77,11 +78,10 @@ module _ (t : Tables) (sized : Sized t) where
   cards-are = rw (min-eq-left {n = t .cards} {m = 32} (sized .cards))
 
   cards-count : length (bookOf t .cards) ≡ t .cards
-  cards-count = rw cards-are (upTo-length (cardView (t .digits) (t .lengths)) (t .cards))
+  cards-count = card-count (t .cards) (t .digits) (t .lengths) (t .groups) (t .rules) (t .rows) ∙ min-eq-left {n = t .cards} {m = 32} (sized .cards)
 
   rules-count : length (bookOf t .rules) ≡ t .rules
-  unfolding bookFrom
-  rules-count = upTo-length (λ i. ruleView (rowAt (t .rows) i)) (min (t .rules) 56) ∙ min-eq-left {n = t .rules} {m = 56} (sized .rules)
+  rules-count = rule-count (t .cards) (t .digits) (t .lengths) (t .groups) (t .rules) (t .rows) ∙ min-eq-left {n = t .rules} {m = 56} (sized .rules)
 
 card-reads : (w : List ℕ) → getD w 0 0 ≡ code "C" → readLine w ≡ someIf (isCardLine w) (card (cardDigits w))
 unfolding readLine

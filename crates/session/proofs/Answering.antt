@@ -3,21 +3,20 @@ use mathlib.Core.Path.{_≡_, refl, sym, _∙_, ap}
 use mathlib.Core.List.{List, [], _∷_}
 use mathlib.Core.Option.{none, some}
 use mathlib.Core.Bool.{Bool, true, false, cond}
-use Prim.Native.Nat.{ℕ, _-_, _*_, _≤_, _<_, min}
+use Prim.Native.Nat.{ℕ, _-_, _*_, _≤_, _<_}
 use native.Mathlib.Omega.{arith}
 use native.Mathlib.Nat.{min-eq-left}
 use lib.Dec.{ltb}
 use lib.ListN.{length, take, drop, length-append, length-take, length-drop}
 use lib.Seq.{take-all, take-at}
 use borrow.Author.Tests.{le-leb, lt-leb}
-use Rattle.model.specs.Limits.{cardLimit}
 use Rattle.model.specs.Questions.{done}
 use Rattle.model.specs.Calls.{Call, settle, after}
-use Rattle.model.proofs.Places.{upTo-length}
 use Rattle.answers.specs.View.{answerOf, replyOf}
 use Rattle.answers.specs.declared.Answer.{Answer}
 use Rattle.answers.specs.declared.Reply.{Reply}
-use Rattle.rulebook.specs.View.{bookFrom, cardView}
+use Rattle.rulebook.specs.View.{bookFrom}
+use Rattle.rulebook.proofs.Books.{card-count}
 use Rattle.accounts.specs.Answered as accounts
 use Rattle.settling.specs.Settles.{Settles}
 use Rattle.settling.proofs.Outcome.{settled-after}
@@ -63,10 +62,9 @@ module _ (cards : ℕ) (digits groups : List ℕ) (rules : ℕ) (rows h : List �
   -- ---- a call performed
 
   pub performed-account : (call : Call) (r : Reply) (h′ : List ℕ) → accounts.Answered cards h call r h′ → Performed cards digits groups rules rows h call r h′
-  unfolding bookFrom
   performed-account call r h′ a = record {
-    answers = λ lengths. a .answers (bookFrom cards digits lengths groups rules rows) (upTo-length (cardView digits lengths) (min cards cardLimit));
-    state = λ lengths l. a .state (bookFrom cards digits lengths groups rules rows) (upTo-length (cardView digits lengths) (min cards cardLimit)) l;
+    answers = λ lengths. a .answers (bookFrom cards digits lengths groups rules rows) (card-count cards digits lengths groups rules rows);
+    state = λ lengths l. a .state (bookFrom cards digits lengths groups rules rows) (card-count cards digits lengths groups rules rows) l;
     size = a .size;
   }
 

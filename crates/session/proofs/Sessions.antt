@@ -8,9 +8,8 @@ use lib.ListN.{length, take, length-take, replicate}
 use lib.Seq.{take-nil}
 use Rattle.model.specs.Limits.{cardLimit, ruleLimit}
 use Rattle.model.specs.Questions.{refused}
-use Rattle.model.proofs.Places.{upTo-length}
 use Rattle.answers.specs.declared.Answer.the-variants.{Done, Refused}
-use Rattle.rulebook.specs.View.{bookFrom, cardView, ruleView, rowAt}
+use Rattle.rulebook.proofs.Books.{card-count, rule-count}
 use Rattle.engine.specs.View.{bookOf, stateOf}
 use Rattle.engine.specs.Contracts.{Opens}
 use Rattle.engine.specs.declared.Engine.{Engine}
@@ -37,8 +36,7 @@ fresh e = record { engine = e; line = replicate 8193 0; size = 0 }
 
 module _ (text out out′ : List ℕ) (e : Engine) (n : ℕ) where
   book-lengths : (length (bookOf e .cards) ≡ min (e .cards) cardLimit) × (length (bookOf e .rules) ≡ min (e .rules) ruleLimit)
-  unfolding bookFrom
-  book-lengths = (upTo-length (cardView (e .digits) (e .lengths)) (min (e .cards) cardLimit), upTo-length (λ i. ruleView (rowAt (e .rows) i)) (min (e .rules) ruleLimit))
+  book-lengths = (card-count (e .cards) (e .digits) (e .lengths) (e .groups) (e .rules) (e .rows), rule-count (e .cards) (e .digits) (e .lengths) (e .groups) (e .rules) (e .rows))
 
   pub begins-opened : Opens text Done e → Printed (printBook (min (e .cards) 32) (min (e .rules) 56)) out out′ n
       → Begins text out out′ (record { session = fresh e; opened = true; count = n })

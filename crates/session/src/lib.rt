@@ -9,7 +9,6 @@ mod replies;
 use answers::Answer;
 use answers::Reply;
 use engine::Engine;
-ghost use mathlib.Core.Path.{_≡_};
 ghost use Rattle.commands.specs.View.{Printed};
 ghost use Rattle.engine.specs.View.{bookOf};
 ghost use Rattle.session.specs.Blocks.{endSays};

@@ -16,6 +16,7 @@ use Rattle.model.proofs.Tests.{eq-T, bool-ext, every-at, every-in}
 use Rattle.model.proofs.Places.{upTo-length, upTo-at, every-upTo, every-oneTo, in-oneTo}
 use Rattle.answers.specs.declared.Answer.the-variants.{Done, Refused}
 use Rattle.accounts.specs.View.{Ranged, spot, stateFrom}
+use Rattle.accounts.specs.Answered.{Declares}
 use Rattle.settling.specs.Moves.{Taken, Brought, Roomy, allLimited}
 use Rattle.settling.specs.Finish.{Judged, Finished}
 use Rattle.accounts.proofs.HoldingPlaces.{held-at}
@@ -81,14 +82,14 @@ module _ (cards : ℕ) (h e : List ℕ) (n : ℕ) (j : Judged cards e n) where
       → Finished cards h e (Refused 23 0) h
   taken-exceeds h₁ m q t x = record { answers = λ b l. rw (taken-covered h e h₁ n (j .proper) t, ends-fails b l); leaves = refl; size = refl }
     where
-      ends-fails : (b : Book) → length (b .cards) ≡ min cards cardLimit → endsLimited b (stateFrom h) (exchangeOf e) ≡ false
+      ends-fails : (b : Book) → Declares cards b → endsLimited b (stateFrom h) (exchangeOf e) ≡ false
       ends-fails b l =
           bool-ext (endsLimited b (stateFrom h) (exchangeOf e)) false
           (λ f. subst T (sym x) (→limited h₁ m (omega arith) (λ d k r u. omega (arith, t .less d k, ends→ b (stateFrom h) e f d k r (omega arith)))))
           (λ f. absurd f)
 
   module _ (h₁ h₂ : List ℕ) (m : ℕ) (q : m ≡ min cards cardLimit) (t : Taken h e h₁) (w : Brought h₁ e h₂) where
-    ends-is : (b : Book) → length (b .cards) ≡ min cards cardLimit → endsLimited b (stateFrom h) (exchangeOf e) ≡ allLimited h₂ m
+    ends-is : (b : Book) → Declares cards b → endsLimited b (stateFrom h) (exchangeOf e) ≡ allLimited h₂ m
     ends-is b l = bool-ext (endsLimited b (stateFrom h) (exchangeOf e)) (allLimited h₂ m)
         (λ f. →limited h₂ m (omega arith) (λ c k r u. omega (arith, ended h₁ h₂ t w c k, ends→ b (stateFrom h) e f c k r (omega arith))))
         (λ f. →ends b (stateFrom h) e (omega arith) (λ c k r u. omega (arith, ended h₁ h₂ t w c k, limited-at h₂ m c k f r (omega arith))))

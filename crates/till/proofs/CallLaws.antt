@@ -2,12 +2,11 @@
 use mathlib.Core.Path.{_≡_, sym, _∙_}
 use mathlib.Core.Bool.{true, false}
 use mathlib.Core.List.{List}
-use Prim.Native.Nat.{ℕ, _<_, min}
+use Prim.Native.Nat.{ℕ, _<_}
 use native.Mathlib.Omega.{arith}
 use borrow.Author.Tests.{eq-eqb, ne-eqb}
 use lib.ListN.{length}
 use lib.Seq.{ext-getD}
-use Rattle.model.specs.Limits.{cardLimit}
 use Rattle.model.specs.Lists.{upTo}
 use Rattle.model.specs.Questions.{ok, refused, done}
 use Rattle.model.specs.Book.{Book}
@@ -15,7 +14,8 @@ use Rattle.model.specs.Opening.{opening}
 use Rattle.model.specs.Calls.{settle, replyTo, changed}
 use Rattle.model.proofs.Places.{upTo-length, upTo-at}
 use Rattle.answers.specs.declared.Answer.the-variants.{Done, Refused}
-use Rattle.rulebook.specs.View.{bookFrom, bookOf, cardView}
+use Rattle.rulebook.specs.View.{bookFrom, bookOf}
+use Rattle.rulebook.proofs.Books.{card-count}
 use Rattle.rulebook.specs.declared.Tables.{Tables}
 use Rattle.accounts.specs.View.{stateFrom}
 use Rattle.settling.specs.Settles.{Settles}
@@ -39,10 +39,6 @@ module _ (cards : ℕ) (digits groups : List ℕ) (rules : ℕ) (rows h x p : Li
   abbrev book : List ℕ → Book
   book lengths = bookFrom cards digits lengths groups rules rows
 
-  card-count : (lengths : List ℕ) → length (book lengths .cards) ≡ min cards cardLimit
-  unfolding bookFrom
-  card-count lengths = upTo-length (cardView digits lengths) (min cards cardLimit)
-
   refuses : (n i : ℕ) → ((lengths : List ℕ) → replyOver (book lengths) h x p ≡ refused n i) → SettlesOver cards digits groups rules rows h x p n h
   refuses n i q = record { answers = λ lengths. rw (q lengths); leaves = λ lengths. rw (q lengths) }
 
@@ -54,17 +50,17 @@ module _ (cards : ℕ) (digits groups : List ℕ) (rules : ℕ) (rows h x p : Li
   module _ (l : length h ≡ holdingCount) where
     pub undeclared-refuses : UndeclaredZero cards h false → SettlesOver cards digits groups rules rows h x p 24 h
     unfolding replyOver
-    undeclared-refuses z = refuses 24 0 (λ lengths. rw (eq-eqb (length h) holdingCount l, ← z (book lengths) (card-count lengths)))
+    undeclared-refuses z = refuses 24 0 (λ lengths. rw (eq-eqb (length h) holdingCount l, ← z (book lengths) (card-count cards digits lengths groups rules rows)))
 
     module _ (z : UndeclaredZero cards h true) where
       pub sums-refuse : false ≡ sumsLimited (stateFrom h) → SettlesOver cards digits groups rules rows h x p 24 h
       unfolding replyOver
-      sums-refuse s = refuses 24 0 (λ lengths. rw (eq-eqb (length h) holdingCount l, ← z (book lengths) (card-count lengths), ← s))
+      sums-refuse s = refuses 24 0 (λ lengths. rw (eq-eqb (length h) holdingCount l, ← z (book lengths) (card-count cards digits lengths groups rules rows), ← s))
 
       module _ (s : true ≡ sumsLimited (stateFrom h)) where
         goes-on : (lengths : List ℕ) → replyOver (book lengths) h x p ≡ replyTo (book lengths) (stateFrom h) (settle x p)
         unfolding replyOver
-        goes-on lengths = rw (eq-eqb (length h) holdingCount l, ← z (book lengths) (card-count lengths), ← s)
+        goes-on lengths = rw (eq-eqb (length h) holdingCount l, ← z (book lengths) (card-count cards digits lengths groups rules rows), ← s)
 
         pub settling-refuses : (n i : ℕ) (h₁ : List ℕ) → Settles cards digits groups rules rows h x p (Refused n i) h₁ → SettlesOver cards digits groups rules rows h x p n h
         settling-refuses n i h₁ q = refuses n i (λ lengths. goes-on lengths ∙ sym (q .answers lengths))
