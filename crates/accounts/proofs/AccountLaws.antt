@@ -11,7 +11,7 @@ use borrow.Author.Tests.{le-leb, lt-leb}
 use Rattle.model.specs.Limits.{cardLimit, kindCount, sumLimit}
 use Rattle.model.specs.Lists.{within}
 use Rattle.model.specs.Questions as model
-use Rattle.model.specs.Questions.{Question, _⇒_, inOrder}
+use Rattle.model.specs.Questions.{Question, _unless_, inOrder}
 use Rattle.model.specs.Book.{Book, declared}
 use Rattle.model.specs.Holdings.{total, sumTo}
 use Rattle.model.specs.Calls.{Call, issue, redeem, query, accountQuestions, amount, changed, replyTo, after}
@@ -22,7 +22,7 @@ use Rattle.accounts.specs.Refusal.{accountRefusal}
 use Rattle.answers.specs.View.{replyOf}
 use Rattle.answers.specs.declared.Reply.{Reply}
 use Rattle.answers.specs.declared.Reply.the-variants.{Done, Holding, Refused}
-use Rattle.accounts.specs.View.{Ranged, spot, stateFrom}
+use Rattle.accounts.specs.View.{Ranged, indexOf, stateFrom}
 use Rattle.accounts.proofs.HoldingPlaces.{held-at, held-set}
 
 -- ---- questions 8 and 9
@@ -112,10 +112,10 @@ amount-elsewhere c k n d j e = rw e (omega arith)
 
 module _ (n : ℕ) (h : List ℕ) (c k : ℕ) where
   abbrev sumQuestion : ℕ → List Question
-  sumQuestion m = (10 ⇒ leb (total (stateFrom h) k + m) sumLimit) ∷ []
+  sumQuestion m = (10 unless leb (total (stateFrom h) k + m) sumLimit) ∷ []
 
   abbrev holdingQuestion : ℕ → List Question
-  holdingQuestion m = (11 ⇒ leb m (stateFrom h .held c k)) ∷ []
+  holdingQuestion m = (11 unless leb m (stateFrom h .held c k)) ∷ []
 
   module _ (q : ℕ) (f : q ≡ accountRefusal n c k) (z : q ≡ 0 → ⊥) where
     pub issue-unknown : (m : ℕ) → Answered n h (issue c k m) (Refused q 0) h
@@ -131,13 +131,13 @@ module _ (n : ℕ) (h : List ℕ) (c k : ℕ) where
     query-unknown = refuses n h (query c k) q 0 (λ b l. account-refuses n b l c k [] (model.ok (model.holding (stateFrom h .held c k))) q f z)
 
   module _ (a : Account n c k) where
-    here : stateFrom h .held c k ≡ getD h (spot c k) 0
+    here : stateFrom h .held c k ≡ getD h (indexOf c k) 0
     here = held-at h c k (a .ranged)
 
-    pub query-told : Answered n h (query c k) (Holding (getD h (spot c k) 0)) h
+    pub query-told : Answered n h (query c k) (Holding (getD h (indexOf c k) 0)) h
     unfolding replyTo
     query-told =
-        leaves n h (query c k) (model.holding (stateFrom h .held c k)) (Holding (getD h (spot c k) 0)) h
+        leaves n h (query c k) (model.holding (stateFrom h .held c k)) (Holding (getD h (indexOf c k) 0)) h
         (ap (λ (x : ℕ). model.ok (model.holding x)) (sym here))
         (λ b l. account-passes n b l c k [] (model.ok (model.holding (stateFrom h .held c k))) a)
         (λ l d j. omega arith) refl
@@ -149,34 +149,34 @@ module _ (n : ℕ) (h : List ℕ) (c k : ℕ) where
           refuses n h (issue c k m) 10 0 (λ b z.
           account-passes n b z c k (sumQuestion m) (model.ok model.done) a ∙ rw (lt-leb (total (stateFrom h) k + m) sumLimit l))
 
-      pub redeem-short : getD h (spot c k) 0 < m → Answered n h (redeem c k m) (Refused 11 0) h
+      pub redeem-short : getD h (indexOf c k) 0 < m → Answered n h (redeem c k m) (Refused 11 0) h
       unfolding replyTo
       redeem-short l =
           refuses n h (redeem c k m) 11 0 (λ b z.
-          account-passes n b z c k (holdingQuestion m) (model.ok model.done) a ∙ rw (here, lt-leb m (getD h (spot c k) 0) l))
+          account-passes n b z c k (holdingQuestion m) (model.ok model.done) a ∙ rw (here, lt-leb m (getD h (indexOf c k) 0) l))
 
       -- the holding there becomes v, and the call makes just that of it
       stored : (call : Call) (v : ℕ) → ((b : Book) → Declares n b → replyTo b (stateFrom h) call ≡ model.ok model.done)
           → v ≡ changed (stateFrom h) call .held c k
           → ((d j : ℕ) → (eqb c d && eqb k j) ≡ false → stateFrom h .held d j ≡ changed (stateFrom h) call .held d j)
-          → Answered n h call Done (set h (spot c k) v)
+          → Answered n h call Done (set h (indexOf c k) v)
       stored call v f e g =
-          leaves n h call model.done Done (set h (spot c k) v) refl f
+          leaves n h call model.done Done (set h (indexOf c k) v) refl f
           (λ l d j. held-set h c k v l (a .ranged) d j ∙ at-one (stateFrom h .held) (changed (stateFrom h) call .held) c k v e g d j)
-          (length-set h (spot c k) v)
+          (length-set h (indexOf c k) v)
 
-      pub issue-done : total (stateFrom h) k + m ≤ sumLimit → Answered n h (issue c k m) Done (set h (spot c k) (getD h (spot c k) 0 + m))
+      pub issue-done : total (stateFrom h) k + m ≤ sumLimit → Answered n h (issue c k m) Done (set h (indexOf c k) (getD h (indexOf c k) 0 + m))
       unfolding replyTo
       issue-done l =
-          stored (issue c k m) (getD h (spot c k) 0 + m)
+          stored (issue c k m) (getD h (indexOf c k) 0 + m)
           (λ b z. account-passes n b z c k (sumQuestion m) (model.ok model.done) a ∙ rw (le-leb (total (stateFrom h) k + m) sumLimit l))
           (omega (arith, here, amount-here c k m)) (λ x y e. omega (arith, amount-elsewhere c k m x y e))
 
-      pub redeem-done : m ≤ getD h (spot c k) 0 → Answered n h (redeem c k m) Done (set h (spot c k) (getD h (spot c k) 0 - m))
+      pub redeem-done : m ≤ getD h (indexOf c k) 0 → Answered n h (redeem c k m) Done (set h (indexOf c k) (getD h (indexOf c k) 0 - m))
       unfolding replyTo
       redeem-done l =
-          stored (redeem c k m) (getD h (spot c k) 0 - m)
-          (λ b z. account-passes n b z c k (holdingQuestion m) (model.ok model.done) a ∙ rw (here, le-leb m (getD h (spot c k) 0) l))
+          stored (redeem c k m) (getD h (indexOf c k) 0 - m)
+          (λ b z. account-passes n b z c k (holdingQuestion m) (model.ok model.done) a ∙ rw (here, le-leb m (getD h (indexOf c k) 0) l))
           (omega (arith, here, amount-here c k m)) (λ x y e. omega (arith, amount-elsewhere c k m x y e))
 
 -- ---- the sum of a kind
@@ -195,7 +195,7 @@ pub sum-more : (h : List ℕ) (k sum i w : ℕ) → SumTo h k sum i → i < card
     → SumTo h k (sum + w) (i + 1)
 unfolding sumTo
 sum-more h k sum i w s l p q e m =
-    let at : spot (suc i) k ≡ i * kindCount + (k - 1) = omega arith in
+    let at : indexOf (suc i) k ≡ i * kindCount + (k - 1) = omega arith in
     let x = held-at h (suc i) k (record { c-low = omega arith; c-high = omega arith; k-low = p; k-high = q }) in
     record {
       some = omega arith;
@@ -215,7 +215,7 @@ sum-nothing h k f = (sym (sum-same (λ c. stateFrom h .held c k) (λ c. 0) cardL
     none : (c : ℕ) → stateFrom h .held c k ≡ 0
     none c =
         rw (never-true (within k kindCount) (λ e. let w = within-true k kindCount e in f (w .0) (w .1)))
-        (pick (within c cardLimit) (getD h (spot c k) 0))
+        (pick (within c cardLimit) (getD h (indexOf c k) 0))
 
 pub sum-all : (h : List ℕ) (k sum i : ℕ) → SumTo h k sum i → cardLimit ≤ i → (sum ≡ total (stateFrom h) k) × (sum < 1099511627776)
 sum-all h k sum i s l =
@@ -223,5 +223,5 @@ sum-all h k sum i s l =
     (s .is ∙ ap (λ (n : ℕ). sumTo (λ c. stateFrom h .held c k) n) e, omega (arith, s .small))
 
 -- a holding is a part of its kind's sum
-pub held-part : (h : List ℕ) (c k : ℕ) → Ranged c k → getD h (spot c k) 0 ≤ total (stateFrom h) k
+pub held-part : (h : List ℕ) (c k : ℕ) → Ranged c k → getD h (indexOf c k) 0 ≤ total (stateFrom h) k
 held-part h c k r = rw (← held-at h c k r) (sum-part (λ d. stateFrom h .held d k) cardLimit c (r .c-low) (r .c-high))

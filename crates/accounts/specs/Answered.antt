@@ -4,7 +4,7 @@ use mathlib.Core.List.{List}
 use Prim.Native.Nat.{ℕ, min}
 use lib.Dec.{T}
 use lib.ListN.{length}
-use Rattle.model.specs.Limits.{cardLimit}
+use Rattle.model.specs.Limits.{cardLimit, holdingCount}
 use Rattle.model.specs.Book.{Book}
 use Rattle.model.specs.Calls.{Call, isRefused, replyTo, after}
 use Rattle.answers.specs.View.{replyOf}
@@ -19,8 +19,8 @@ Declares cards b = length (b .cards) ≡ min cards cardLimit
 pub record Answered (cards : ℕ) (h : List ℕ) (call : Call) (reply : Reply) (h′ : List ℕ) : Type 0 where
   -- the first question that is answered no, or what the call tells
   pub answers : (b : Book) → Declares cards b → replyOf reply ≡ replyTo b (stateFrom h) call
-  -- the holdings afterwards, of an array of 512
-  pub state : (b : Book) → Declares cards b → length h ≡ 512 → stateFrom h′ ≡ after b (stateFrom h) call
+  -- the holdings afterwards; that there are 512 the array's type says
+  pub state : (b : Book) → Declares cards b → length h ≡ holdingCount → stateFrom h′ ≡ after b (stateFrom h) call
   pub size : length h′ ≡ length h
   -- a refused call changes none
   pub refused : T (isRefused (replyOf reply)) → h′ ≡ h

@@ -8,11 +8,11 @@ use Rattle.model.specs.Lists.{within}
 use Rattle.model.specs.Holdings.{State}
 
 -- where card c's holding of kind k stands
-abbrev pub spot : ℕ → ℕ → ℕ
-spot c k = (c - 1) * kindCount + (k - 1)
+abbrev pub indexOf : ℕ → ℕ → ℕ
+indexOf c k = (c - 1) * kindCount + (k - 1)
 
 unfoldable pub stateFrom : List ℕ → State
-stateFrom holdings = record { held = λ c k. cond (within c cardLimit && within k kindCount) (getD holdings (spot c k) 0) 0 }
+stateFrom holdings = record { held = λ c k. cond (within c cardLimit && within k kindCount) (getD holdings (indexOf c k) 0) 0 }
 
 -- one of 32 cards and one of 16 kinds
 pub record Ranged (c k : ℕ) : Type 0 where

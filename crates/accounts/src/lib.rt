@@ -5,7 +5,7 @@ ghost use mathlib.Core.Path.{_≡_};
 ghost use Prim.Native.Nat.{_<_};
 ghost use Rattle.model.specs.Holdings.{total};
 ghost use Rattle.model.specs.Calls.{issue, redeem, query};
-ghost use Rattle.accounts.specs.View.{spot, stateFrom, Ranged};
+ghost use Rattle.accounts.specs.View.{indexOf, stateFrom, Ranged};
 ghost use Rattle.accounts.specs.Answered.{Answered};
 ghost use Rattle.accounts.specs.Refusal.{accountRefusal};
 use answers::Reply;
@@ -45,7 +45,7 @@ fn account(cards: u8, card: u32, kind: u32) -> u8
 // Where the card's holding of the kind stands.
 fn place(card: u32, kind: u32) -> usize
     requires { ⌜ Ranged card kind ⌝ }
-    ensures { λ r. ⌜ (r ≡ spot card kind) × (r < 512) ⌝ }
+    ensures { λ r. ⌜ (r ≡ indexOf card kind) × (r < 512) ⌝ }
 {
     (card as usize - 1) * KINDS + (kind as usize - 1)
 }

@@ -10,7 +10,8 @@ use lib.ListN.{length, getD, drop, set, length-drop, length-append, drop-of-leng
 use lib.Seq.{take-all, take-nil, getD-drop, drop-drop, paste, paste-zero, paste-suc, sets}
 use Rattle.model.specs.Lists.{ascii}
 use Rattle.model.specs.Grammar.{digit}
-use Rattle.commands.specs.Grammar.{decimal, answer}
+use Rattle.model.specs.Grammar.{decimal}
+use Rattle.commands.specs.Grammar.{answer}
 use Rattle.commands.specs.View.{over, Filled, Printed}
 use Rattle.commands.specs.Parts.{Put}
 use Rattle.commands.proofs.Decimals.{decimal-one, decimal-more}

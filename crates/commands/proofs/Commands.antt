@@ -16,7 +16,9 @@ use Rattle.model.specs.Reader.{digitOf}
 use Rattle.model.specs.Calls.{Call, issue, redeem, query, settle}
 use Rattle.model.proofs.Tests.{T-eq, eq-T, and, both, every-map}
 use Rattle.model.proofs.Facts.{facts, never}
-use Rattle.commands.specs.Grammar.{decimal, hexDigit, hexByte, hexadecimal, largest, printCommand, wellFormed}
+use Rattle.model.specs.Grammar.{decimal}
+use Rattle.model.specs.Limits.{numberMost}
+use Rattle.commands.specs.Grammar.{hexDigit, hexByte, hexadecimal, printCommand, wellFormed}
 use Rattle.commands.specs.Reader.{andThen, isDigit, readNumber, isHexadecimal, bytesOf, Cut, firstWord, Numbered, firstNumber}
 use Rattle.commands.specs.Reader.{readTwo, readThree, readSettle, readForm, readCommand}
 use Rattle.commands.proofs.Decimals.{decimal-digits, number-printed, number-taken}
@@ -67,14 +69,14 @@ first-printed xs r t =
     let l = length-append xs (code " " ∷ r) in
     rw (until-space xs r t, lt-ltb (length xs) (length s) (omega arith), take-append-seam xs (code " " ∷ r), drop-append-add xs (code " " ∷ r) 1)
 
-number-first : (n : ℕ) (r : List ℕ) → n ≤ largest → firstNumber (decimal n ++ (code " " ∷ r)) ≡ some (record { value = n; rest = r })
+number-first : (n : ℕ) (r : List ℕ) → n ≤ numberMost → firstNumber (decimal n ++ (code " " ∷ r)) ≡ some (record { value = n; rest = r })
 unfolding firstNumber
 number-first n r l = rw (first-printed (decimal n) r (decimal-solid n), number-printed n l)
 
-number-last : (n : ℕ) → n ≤ largest → readNumber (decimal n ++ []) ≡ some n
+number-last : (n : ℕ) → n ≤ numberMost → readNumber (decimal n ++ []) ≡ some n
 number-last n l = rw (append-nil (decimal n)) (number-printed n l)
 
-three-printed : (f : ℕ → ℕ → ℕ → Call) (m k n : ℕ) → m ≤ largest → k ≤ largest → n ≤ largest
+three-printed : (f : ℕ → ℕ → ℕ → Call) (m k n : ℕ) → m ≤ numberMost → k ≤ numberMost → n ≤ numberMost
     → readThree f (decimal m ++ (code " " ∷ (decimal k ++ (code " " ∷ (decimal n ++ []))))) ≡ some (f m k n)
 three-printed f m k n a b c = three-all f _ _ (number-first m _ a) _ (number-first k _ b) n (number-last n c)
 
@@ -137,7 +139,7 @@ cut-back s c = go (ltb (until (code " ") s) (length s)) refl
         rw (← z, add-one n) (ap (λ (x : ℕ). take n s ++ (x ∷ drop (suc n) s)) (sym (space-there s l)) ∙ sym (split-at s n 0 l))
     go false e h = never (cc)
 
-number-back : (s : List ℕ) (m : Numbered) → firstNumber s ≡ some m → (decimal (m .value) ++ (code " " ∷ m .rest) ≡ s) × (m .value ≤ largest)
+number-back : (s : List ℕ) (m : Numbered) → firstNumber s ≡ some m → (decimal (m .value) ++ (code " " ∷ m .rest) ≡ s) × (m .value ≤ numberMost)
 unfolding firstNumber
 number-back s m e =
     let a = step (firstWord s) _ m e in
@@ -163,7 +165,7 @@ two-back s c e =
 -- three numbers, by their letter
 module _ (x : ℕ) (f : ℕ → ℕ → ℕ → Call) (s : List ℕ) (c : Call)
     (prints : (m k n : ℕ) → printCommand (f m k n) ≡ x ∷ code " " ∷ (decimal m ++ (code " " ∷ (decimal k ++ (code " " ∷ (decimal n ++ []))))))
-    (formed : (m k n : ℕ) → m ≤ largest → k ≤ largest → n ≤ largest → T (wellFormed (f m k n))) where
+    (formed : (m k n : ℕ) → m ≤ numberMost → k ≤ numberMost → n ≤ numberMost → T (wellFormed (f m k n))) where
   three-back : readThree f s ≡ some c → Prints x s c
   unfolding readThree
   three-back e =

@@ -2,7 +2,8 @@
 use mathlib.Core.Path.{refl, sym, _∙_, ap}
 use Rattle.model.specs.Lists.{ascii}
 use Rattle.model.specs.Reader.{digitOf}
-use Rattle.commands.specs.Grammar.{decimalIn, decimal, largest}
+use Rattle.model.specs.Grammar.{decimalIn, decimal}
+use Rattle.model.specs.Limits.{numberMost}
 use Rattle.commands.specs.Reader.{valueFrom, isPlain, readNumber, readCommand}
 use Rattle.commands.specs.Theorems.{CommandsRead, BytesRead, ExamplesPrinted}
 use Rattle.commands.proofs.Decimals.{number-taken}
@@ -24,7 +25,7 @@ examples-printed = record {
   settling = refl;
   nothing = refl;
   zero = refl;
-  most = number-taken (ascii "4294967295") largest refl .0;
+  most = number-taken (ascii "4294967295") numberMost refl .0;
   book = refl;
   done-said = refl;
   refused-said = refl;

@@ -3,23 +3,15 @@
 use mathlib.Core.Bool.{Bool, _&&_, cond}
 use mathlib.Core.List.{List, [], _∷_, _++_}
 use Prim.Native.Char.{code}
-use Prim.Native.Nat.{ℕ, zero, suc, _+_, _-_, _/_, _%_}
+use Prim.Native.Nat.{ℕ, _+_, _-_, _/_, _%_}
 use lib.Dec.{leb}
+use Rattle.model.specs.Limits.{numberMost}
 use Rattle.model.specs.Lists.{every, each, ascii, isByte}
-use Rattle.model.specs.Grammar.{digit, spaced}
+use Rattle.model.specs.Grammar.{digit, decimal, spaced}
 use Rattle.model.specs.Questions.{ok, refused, done, holding, Reply}
 use Rattle.model.specs.Calls.{Call, issue, redeem, query, settle}
 
 -- ---- numbers and bytes
-
--- n without a leading zero, where it has at most k digits
-unfoldable pub decimalIn : ℕ → ℕ → List ℕ
-decimalIn zero n = []
-decimalIn (suc k) n = cond (leb n 9) (digit n ∷ []) (decimalIn k (n / 10) ++ (digit (n % 10) ∷ []))
-
--- n has at most n + 1 digits
-unfoldable pub decimal : ℕ → List ℕ
-decimal n = decimalIn (suc n) n
 
 -- 0 to 9, then a to f
 abbrev pub hexDigit : ℕ → ℕ
@@ -47,11 +39,8 @@ abbrev pub printCommand : Call → List ℕ
 printCommand c = spaced (commandWords c)
 
 -- "decimal to 4,294,967,295"
-abbrev pub largest : ℕ
-largest = 4294967295
-
 abbrev pub isNumber : ℕ → Bool
-isNumber n = leb n largest
+isNumber n = leb n numberMost
 
 abbrev pub wellFormed : Call → Bool
 wellFormed (issue m k n) = isNumber m && (isNumber k && isNumber n)

@@ -13,7 +13,7 @@ use lib.ListN.{length, getD, take, drop}
 use Rattle.model.specs.Lists.{every, eqList, until, ascii}
 use Rattle.model.specs.Reader.{between, digitOf}
 use Rattle.model.specs.Calls.{Call, issue, redeem, query, settle}
-use Rattle.commands.specs.Grammar.{largest}
+use Rattle.model.specs.Limits.{numberMost}
 
 -- what is read goes on; where nothing is, nothing is read
 abbrev pub andThen : {A B : Type 0} → Option A → (A → Option B) → Option B
@@ -35,7 +35,7 @@ unfoldable pub isPlain : List ℕ → Bool
 isPlain w = leb 1 (length w) && (leb (length w) 1 || not (eqb (getD w 0 0) (code "0")))
 
 unfoldable pub readNumber : List ℕ → Option ℕ
-readNumber w = cond (isPlain w && (every isDigit w && leb (valueFrom 0 w) largest)) (some (valueFrom 0 w)) none
+readNumber w = cond (isPlain w && (every isDigit w && leb (valueFrom 0 w) numberMost)) (some (valueFrom 0 w)) none
 
 -- ---- hexadecimal words
 

@@ -8,7 +8,9 @@ use lib.Dec.{T}
 use Rattle.model.specs.Lists.{every, isByte, ascii}
 use Rattle.model.specs.Questions.{ok, refused, done, holding}
 use Rattle.model.specs.Calls.{Call, issue, redeem, query, settle}
-use Rattle.commands.specs.Grammar.{decimal, hexadecimal, largest, printCommand, printReply, printBad, printBook, wellFormed}
+use Rattle.model.specs.Grammar.{decimal}
+use Rattle.model.specs.Limits.{numberMost}
+use Rattle.commands.specs.Grammar.{hexadecimal, printCommand, printReply, printBad, printBook, wellFormed}
 use Rattle.commands.specs.Reader.{bytesOf, readCommand}
 
 -- a line is read exactly if it is a printed well-formed command, and it is read back
@@ -27,7 +29,7 @@ pub record ExamplesPrinted : Type 0 where
   pub settling : printCommand (settle (1 ∷ 1 ∷ 2 ∷ []) (0 ∷ 175 ∷ [])) ≡ ascii "S 010102 00af"
   pub nothing : printCommand (settle [] []) ≡ ascii "S - -"
   pub zero : decimal 0 ≡ ascii "0"
-  pub most : decimal largest ≡ ascii "4294967295"
+  pub most : decimal numberMost ≡ ascii "4294967295"
   pub book : printBook 3 8 ≡ ascii "book 3 8\n"
   pub done-said : printReply (ok done) ≡ ascii "0 0\n"
   pub refused-said : printReply (refused 13 1) ≡ ascii "13 1\n"

@@ -17,7 +17,7 @@ use Rattle.rulebook.specs.declared.Reading.{Reading}
 use Rattle.rulebook.proofs.Books.{card-count}
 use Rattle.rulebook.specs.Reads.{Reads}
 use Rattle.accounts.specs.Answered.{Answered}
-use Rattle.accounts.specs.View.{spot, stateFrom}
+use Rattle.accounts.specs.View.{indexOf, stateFrom}
 use Rattle.settling.specs.Settles.{Settles}
 use Rattle.settling.proofs.Outcome.{settled-after}
 use Rattle.engine.specs.View.{bookOf, stateOf}
@@ -33,8 +33,8 @@ none-held = λ i. record { held = λ c k. nothing c k i }
     pick true n e = e
     pick false n e = refl
 
-    nothing : (c k : ℕ) → cond (within c cardLimit && within k kindCount) (getD (replicate 512 0) (spot c k) 0) 0 ≡ noHoldings .held c k
-    nothing c k = pick (within c cardLimit && within k kindCount) (getD (replicate 512 0) (spot c k) 0) (zeros 512 (spot c k))
+    nothing : (c k : ℕ) → cond (within c cardLimit && within k kindCount) (getD (replicate 512 0) (indexOf c k) 0) 0 ≡ noHoldings .held c k
+    nothing c k = pick (within c cardLimit && within k kindCount) (getD (replicate 512 0) (indexOf c k) 0) (zeros 512 (indexOf c k))
 
 pub opens : (text : List ℕ) (r : Reading) → Reads r text → Opens text (r .answer) (record {
   holdings = replicate 512 0;

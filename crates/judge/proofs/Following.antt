@@ -10,7 +10,7 @@ use lib.ListN.{length, getD, set, take, replicate, length-set, length-replicate,
 use lib.Seq.{take-set-lt}
 use borrow.Author.Tests.{eq-eqb, ne-eqb}
 use Rattle.model.specs.Lists.{within}
-use Rattle.model.specs.Questions.{Answer, ok, refused, done, Reply, _⇒_, inOrder, andThen, firstUnmet}
+use Rattle.model.specs.Questions.{Answer, ok, refused, done, Reply, _unless_, inOrder, andThen, firstUnmet}
 use Rattle.model.specs.Grammar.{Rule}
 use Rattle.model.specs.Transfers.{Exchange, contained, transferAt, exchangeOf}
 use Rattle.model.specs.Fairness.{pricesOf}
@@ -52,7 +52,7 @@ passed t e r marks left records h =
     let a = cond-zero (isClaimable marks (transfers e) (claim r)) _ 14 h in
     let b = cond-zero (within (ruleNumber r) (t .rules)) _ 15 (a .1) in
     let rule = ruleTests (t .cards) (t .digits) (t .groups) (rowAt (t .rows) (ruleNumber r - 1)) r (transferAt e (claim r - 1)) in
-    let link = (20 ⇒ isLinked left (next r) records) ∷ [] in
+    let link = (20 unless isLinked left (next r) records) ∷ [] in
     record {
       claimable = a .0;
       claim-bounds = within-true (claim r) (transfers e) (both-true (within (claim r) (transfers e)) _ (a .0) .0);
@@ -71,7 +71,7 @@ module _ (t : Parts) (e p : List ℕ) where
 
   -- question 21, asked of the prices of the whole chain
   abbrev paying : Exchange → Reply
-  paying P = inOrder ((21 ⇒ contained P (exchangeOf e)) ∷ []) 0 (ok done)
+  paying P = inOrder ((21 unless contained P (exchangeOf e)) ∷ []) 0 (ok done)
 
   -- the model's answer from record i on
   abbrev answerFrom : List ℕ → ℕ → List Bool → Exchange → ℕ → Reply

@@ -6,7 +6,7 @@ use Prim.Native.Nat.{ℕ, _-_}
 use lib.Dec.{eqb}
 use lib.ListN.{getD}
 use Rattle.model.specs.Lists.{within}
-use Rattle.model.specs.Questions.{Question, _⇒_}
+use Rattle.model.specs.Questions.{Question, _unless_}
 use Rattle.model.specs.Transfers.{Transfer, transferAt}
 use Rattle.model.specs.Proof.{next, claim, ruleNumber}
 use Rattle.rulebook.specs.View.{rowAt}
@@ -25,15 +25,15 @@ isLinked left i records = cond (eqb left 0) (eqb i 0) (within i records)
 -- questions 16 to 19 of a record that claims transfer c by the rule of the row
 unfoldable pub ruleTests : ℕ → List ℕ → List ℕ → List ℕ → List ℕ → Transfer → List Question
 ruleTests n digits groups row r c =
-    (16 ⇒ (eqb (ownerOf row) (c .giver) && eqb (getD row 1 0) (c .kind))) ∷
-    (17 ⇒ cardsFit n row r (c .receiver)) ∷
-    (18 ⇒ allPayable row r) ∷
-    (19 ⇒ allHold n digits groups row r) ∷ []
+    (16 unless (eqb (ownerOf row) (c .giver) && eqb (getD row 1 0) (c .kind))) ∷
+    (17 unless cardsFit n row r (c .receiver)) ∷
+    (18 unless allPayable row r) ∷
+    (19 unless allHold n digits groups row r) ∷ []
 
 -- questions 15 to 20; e: the exchange's bytes, marks: what is claimed before this record
 unfoldable pub recordTests : Parts → List ℕ → List ℕ → List Bool → ℕ → ℕ → List Question
 recordTests t e r marks left records =
-    (15 ⇒ isClaimable marks (transfers e) (claim r)) ∷
-    (16 ⇒ within (ruleNumber r) (t .rules)) ∷
+    (15 unless isClaimable marks (transfers e) (claim r)) ∷
+    (16 unless within (ruleNumber r) (t .rules)) ∷
     (ruleTests (t .cards) (t .digits) (t .groups) (rowAt (t .rows) (ruleNumber r - 1)) r (transferAt e (claim r - 1)) ++
-    ((20 ⇒ isLinked left (next r) records) ∷ []))
+    ((20 unless isLinked left (next r) records) ∷ []))

@@ -8,11 +8,11 @@ use lib.Dec.{T, eqb, leb, eqb→eq, leb→le}
 use lib.ListN.{length}
 use Rattle.model.specs.Limits.{cardLimit, sumLimit}
 use Rattle.model.specs.Lists.{oneIf}
-use Rattle.model.specs.Questions.{ok, Told, done, _⇒_}
+use Rattle.model.specs.Questions.{ok, Told, done, _unless_}
 use Rattle.model.specs.Book.{Book, declared}
 use Rattle.model.specs.Transfers.{exchangeOf}
 use Rattle.model.specs.Holdings.{State, sumTo, total}
-use Rattle.model.specs.Calls.{Call, issue, redeem, query, settle, accountQuestions, replyTo, amount, issues, redeems, brings, takes, changed, after}
+use Rattle.model.specs.Calls.{Call, issue, redeem, query, settle, accountQuestions, replyTo, amount, issues, redeems, receivedIn, givenIn, changed, after}
 use Rattle.model.proofs.Tests.{eq-T, eqb-same, within→}
 use Rattle.model.proofs.Questions.{inOrder-ok}
 use Rattle.model.proofs.Sums.{sum-add, sum-same, sum-zero, sum-point, and-scale, given-is-received, covered→}
@@ -28,11 +28,11 @@ amount-le s c k n d j h = go (eqb c d) (eqb k j) refl refl
     go true false e f = omega arith
     go false y e f = omega arith
 
-pub takes-le : (b : Book) (s : State) (call : Call) (t : Told) → replyTo b s call ≡ ok t → (d j : ℕ) → redeems call d j + takes call d j ≤ s .held d j
+pub takes-le : (b : Book) (s : State) (call : Call) (t : Told) → replyTo b s call ≡ ok t → (d j : ℕ) → redeems call d j + givenIn call d j ≤ s .held d j
 unfolding replyTo
 takes-le b s (issue c k n) t h d j = omega arith
 takes-le b s (redeem c k n) t h d j =
-    let q = inOrder-ok (accountQuestions b c k ++ ((11 ⇒ leb n (s .held c k)) ∷ [])) 0 (ok done) t h in
+    let q = inOrder-ok (accountQuestions b c k ++ ((11 unless leb n (s .held c k)) ∷ [])) 0 (ok done) t h in
     omega (arith, amount-le s c k n d j (leb→le n (s .held c k) (q .0 .1 .1 .0)))
 takes-le b s (query c k) t h d j = omega arith
 takes-le b s (settle e p) t h d j = omega (arith, covered→ s (exchangeOf e) (settled-ok b s e p t h .covered) d j)
@@ -40,18 +40,18 @@ takes-le b s (settle e p) t h d j = omega (arith, covered→ s (exchangeOf e) (s
 -- ---- the sums
 
 -- what is taken and what is left are what was there and what came
-balance : (s : State) (call : Call) → ((d j : ℕ) → redeems call d j + takes call d j ≤ s .held d j) → (k : ℕ)
-    → total (changed s call) k + (sumTo (λ c. redeems call c k) cardLimit + sumTo (λ c. takes call c k) cardLimit)
-    ≡ total s k + (sumTo (λ c. issues call c k) cardLimit + sumTo (λ c. brings call c k) cardLimit)
+balance : (s : State) (call : Call) → ((d j : ℕ) → redeems call d j + givenIn call d j ≤ s .held d j) → (k : ℕ)
+    → total (changed s call) k + (sumTo (λ c. redeems call c k) cardLimit + sumTo (λ c. givenIn call c k) cardLimit)
+    ≡ total s k + (sumTo (λ c. issues call c k) cardLimit + sumTo (λ c. receivedIn call c k) cardLimit)
 balance s call h k = go cardLimit
   where
-    go : (n : ℕ) → sumTo (λ c. changed s call .held c k) n + (sumTo (λ c. redeems call c k) n + sumTo (λ c. takes call c k) n)
-        ≡ sumTo (λ c. s .held c k) n + (sumTo (λ c. issues call c k) n + sumTo (λ c. brings call c k) n)
+    go : (n : ℕ) → sumTo (λ c. changed s call .held c k) n + (sumTo (λ c. redeems call c k) n + sumTo (λ c. givenIn call c k) n)
+        ≡ sumTo (λ c. s .held c k) n + (sumTo (λ c. issues call c k) n + sumTo (λ c. receivedIn call c k) n)
     go n =
-        let l = sum-add (λ c. redeems call c k + takes call c k) (λ c. redeems call c k) (λ c. takes call c k) n (λ c. refl) in
-        let r = sum-add (λ c. issues call c k + brings call c k) (λ c. issues call c k) (λ c. brings call c k) n (λ c. refl) in
-        let x = sum-add (λ c. s .held c k + (issues call c k + brings call c k)) (λ c. s .held c k) (λ c. issues call c k + brings call c k) n (λ c. refl) in
-        let y = sum-add (λ c. s .held c k + (issues call c k + brings call c k)) (λ c. changed s call .held c k) (λ c. redeems call c k + takes call c k) n
+        let l = sum-add (λ c. redeems call c k + givenIn call c k) (λ c. redeems call c k) (λ c. givenIn call c k) n (λ c. refl) in
+        let r = sum-add (λ c. issues call c k + receivedIn call c k) (λ c. issues call c k) (λ c. receivedIn call c k) n (λ c. refl) in
+        let x = sum-add (λ c. s .held c k + (issues call c k + receivedIn call c k)) (λ c. s .held c k) (λ c. issues call c k + receivedIn call c k) n (λ c. refl) in
+        let y = sum-add (λ c. s .held c k + (issues call c k + receivedIn call c k)) (λ c. changed s call .held c k) (λ c. redeems call c k + givenIn call c k) n
         (λ c. omega (arith, h c k)) in
         omega (arith, l, r, x, y)
 
@@ -79,13 +79,13 @@ module _ (b : Book) (few : length (b .cards) ≤ cardLimit) where
   pub issuing-adds : (s : State) (c j n k : ℕ) (t : Told) → replyTo b s (issue c j n) ≡ ok t → total (changed s (issue c j n)) k ≡ total s k + amount c j n c k
   unfolding replyTo
   issuing-adds s c j n k t h =
-      let q = inOrder-ok (accountQuestions b c j ++ ((10 ⇒ leb (total s j + n) sumLimit) ∷ [])) 0 (ok done) t h in
+      let q = inOrder-ok (accountQuestions b c j ++ ((10 unless leb (total s j + n) sumLimit) ∷ [])) 0 (ok done) t h in
       omega (arith, balance s (issue c j n) (takes-le b s (issue c j n) t h) k, sum-zero cardLimit, amount-sum c j n k (q .0 .0))
 
   pub redeeming-takes : (s : State) (c j n k : ℕ) (t : Told) → replyTo b s (redeem c j n) ≡ ok t → total (changed s (redeem c j n)) k + amount c j n c k ≡ total s k
   unfolding replyTo
   redeeming-takes s c j n k t h =
-      let q = inOrder-ok (accountQuestions b c j ++ ((11 ⇒ leb n (s .held c j)) ∷ [])) 0 (ok done) t h in
+      let q = inOrder-ok (accountQuestions b c j ++ ((11 unless leb n (s .held c j)) ∷ [])) 0 (ok done) t h in
       omega (arith, balance s (redeem c j n) (takes-le b s (redeem c j n) t h) k, sum-zero cardLimit, amount-sum c j n k (q .0 .0))
 
   -- ---- no kind's sum ever passes the limit
@@ -93,7 +93,7 @@ module _ (b : Book) (few : length (b .cards) ≤ cardLimit) where
   issue-limit : (s : State) (c j n k : ℕ) (t : Told) → replyTo b s (issue c j n) ≡ ok t → total s k ≤ sumLimit → total s k + amount c j n c k ≤ sumLimit
   unfolding replyTo
   issue-limit s c j n k t h l =
-      let q = inOrder-ok (accountQuestions b c j ++ ((10 ⇒ leb (total s j + n) sumLimit) ∷ [])) 0 (ok done) t h in
+      let q = inOrder-ok (accountQuestions b c j ++ ((10 unless leb (total s j + n) sumLimit) ∷ [])) 0 (ok done) t h in
       go (eqb c c) (eqb j k) refl (leb→le (total s j + n) sumLimit (q .0 .1 .1 .0))
     where
       go : (x y : Bool) → eqb j k ≡ y → total s j + n ≤ sumLimit → total s k + oneIf (x && y) * n ≤ sumLimit

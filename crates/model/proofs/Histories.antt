@@ -10,7 +10,7 @@ use Rattle.model.specs.Questions.{ok, refused, Told, done, Reply}
 use Rattle.model.specs.Book.{Book}
 use Rattle.model.specs.Transfers.{exchangeOf}
 use Rattle.model.specs.Holdings.{State, MovedExactly, sumTo, total}
-use Rattle.model.specs.Calls.{Call, issue, redeem, query, settle, replyTo, redeems, brings, takes, isRefused, changed, after}
+use Rattle.model.specs.Calls.{Call, issue, redeem, query, settle, replyTo, redeems, receivedIn, givenIn, isRefused, changed, after}
 use Rattle.model.specs.History.{History, start, _▸_, issued, redeemed, received, given, stateBy, notRefused, stateAfter, replyAfter}
 use Rattle.model.specs.Theorems.{Histories}
 use Rattle.model.proofs.Sums.{sum-add, sum-zero, given-is-received, covered→}
@@ -23,7 +23,7 @@ abbrev pub Natural : List Call → Type 0
 Natural calls = (c k : ℕ) → redeemed calls c k + given calls c k ≤ issued calls c k + received calls c k
 
 -- a call more, in a state that it takes no more from than is there
-state-more : (calls : List Call) (call : Call) → Natural calls → ((d j : ℕ) → redeems call d j + takes call d j ≤ stateBy calls .held d j)
+state-more : (calls : List Call) (call : Call) → Natural calls → ((d j : ℕ) → redeems call d j + givenIn call d j ≤ stateBy calls .held d j)
     → Natural (call ∷ calls) × (stateBy (call ∷ calls) ≡ changed (stateBy calls) call)
 unfolding stateBy
 state-more calls call n h = (
@@ -57,7 +57,7 @@ module _ (b : Book) where
 
   module _ (shaped : Shaped b) where
     -- a call gives over all cards what it receives
-    even-call : (s : State) (call : Call) (t : Told) → replyTo b s call ≡ ok t → (k : ℕ) → sumTo (λ c. takes call c k) cardLimit ≡ sumTo (λ c. brings call c k) cardLimit
+    even-call : (s : State) (call : Call) (t : Told) → replyTo b s call ≡ ok t → (k : ℕ) → sumTo (λ c. givenIn call c k) cardLimit ≡ sumTo (λ c. receivedIn call c k) cardLimit
     even-call s (issue c j n) t h k = refl
     even-call s (redeem c j n) t h k = refl
     even-call s (query c j) t h k = refl
@@ -86,8 +86,8 @@ module _ (b : Book) where
             evens : (k : ℕ) → sumTo (λ c. given (call ∷ notRefused b h) c k) cardLimit ≡ sumTo (λ c. received (call ∷ notRefused b h) c k) cardLimit
             evens k = omega (
               arith,
-              sum-add (λ c. given (call ∷ notRefused b h) c k) (λ c. takes call c k) (λ c. given (notRefused b h) c k) cardLimit (λ c. refl),
-              sum-add (λ c. received (call ∷ notRefused b h) c k) (λ c. brings call c k) (λ c. received (notRefused b h) c k) cardLimit (λ c. refl),
+              sum-add (λ c. given (call ∷ notRefused b h) c k) (λ c. givenIn call c k) (λ c. given (notRefused b h) c k) cardLimit (λ c. refl),
+              sum-add (λ c. received (call ∷ notRefused b h) c k) (λ c. receivedIn call c k) (λ c. received (notRefused b h) c k) cardLimit (λ c. refl),
               even-call (stateAfter b h) call t now k,
               kept .even k,
             )

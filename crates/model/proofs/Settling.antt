@@ -9,7 +9,7 @@ use lib.Dec.{T, leb, leb→le, le→leb}
 use lib.ListN.{length, replicate}
 use Rattle.model.specs.Limits.{cardLimit, kindCount, sumLimit, transferSize, exchangeLimit, recordSize, proofLimit}
 use Rattle.model.specs.Lists.{isByte, every, firstFailing, oneTo}
-use Rattle.model.specs.Questions.{Answer, ok, refused, Told, done, Reply, Question, _⇒_, inOrder, andThen}
+use Rattle.model.specs.Questions.{Answer, ok, refused, Told, done, Reply, Question, _unless_, inOrder, andThen}
 use Rattle.model.specs.Book.{Book}
 use Rattle.model.specs.Transfers.{Exchange, contained, transferAt, exchangeOf}
 use Rattle.model.specs.Fairness.{Fair, isProper, Among}
@@ -40,9 +40,9 @@ pub record Judged (b : Book) (e p : List ℕ) (t : Told) : Type 0 where
 pub judged-ok : (b : Book) (e p : List ℕ) (t : Told) → judging b e p ≡ ok t → Judged b e p t
 unfolding judging
 judged-ok b e p t h =
-    let q12 = inOrder-ok ((12 ⇒ isSized transferSize exchangeLimit e) ∷ []) 0 _ t h in
-    let q13 = inOrder-ok ((13 ⇒ every (isProper b) (exchangeOf e)) ∷ []) (firstFailing (isProper b) 1 (exchangeOf e)) _ t (q12 .1) in
-    let q14 = inOrder-ok ((14 ⇒ isSized recordSize proofLimit p) ∷ []) 0 _ t (q13 .1) in
+    let q12 = inOrder-ok ((12 unless isSized transferSize exchangeLimit e) ∷ []) 0 _ t h in
+    let q13 = inOrder-ok ((13 unless every (isProper b) (exchangeOf e)) ∷ []) (firstFailing (isProper b) 1 (exchangeOf e)) _ t (q12 .1) in
+    let q14 = inOrder-ok ((14 unless isSized recordSize proofLimit p) ∷ []) 0 _ t (q13 .1) in
     record { sized = q12 .0 .0; among = q13 .0 .0; judged = q14 .1 }
 
 pub settled-ok : (b : Book) (s : State) (e p : List ℕ) (t : Told) → replyTo b s (settle e p) ≡ ok t → Settled b s e
@@ -50,7 +50,7 @@ unfolding replyTo
 settled-ok b s e p t h =
     let j = andThen-ok (judging b e p) _ t h in
     let k = judged-ok b e p (j .0) (j .1) in
-    let q = inOrder-ok ((22 ⇒ isCovered s (exchangeOf e)) ∷ (23 ⇒ endsLimited b s (exchangeOf e)) ∷ []) 0 (ok done) t (j .2) in
+    let q = inOrder-ok ((22 unless isCovered s (exchangeOf e)) ∷ (23 unless endsLimited b s (exchangeOf e)) ∷ []) 0 (ok done) t (j .2) in
     record { sized = k .sized; among = k .among; isFair = passed-fair b (exchangeOf e) p (j .0) (k .among) (k .judged); covered = q .0 .0 }
 
 -- it tells no more than that it is done
@@ -58,7 +58,7 @@ pub only-done : (b : Book) (s : State) (e p : List ℕ) (t : Told) → replyTo b
 unfolding replyTo
 only-done b s e p t h =
     let j = andThen-ok (judging b e p) _ t h in
-    let q = inOrder-ok ((22 ⇒ isCovered s (exchangeOf e)) ∷ (23 ⇒ endsLimited b s (exchangeOf e)) ∷ []) 0 (ok done) t (j .2) in
+    let q = inOrder-ok ((22 unless isCovered s (exchangeOf e)) ∷ (23 unless endsLimited b s (exchangeOf e)) ∷ []) 0 (ok done) t (j .2) in
     let r = q .1 in
     cc
 
@@ -94,16 +94,16 @@ judging-met : (b : Book) (e p : List ℕ) → T (isSized transferSize exchangeLi
     → judge b (exchangeOf e) p ≡ ok done → judging b e p ≡ ok done
 unfolding judging
 judging-met b e p size among size′ h =
-    inOrder-met ((12 ⇒ isSized transferSize exchangeLimit e) ∷ []) 0 _ (size, tt)
-    ∙ inOrder-met ((13 ⇒ every (isProper b) (exchangeOf e)) ∷ []) (firstFailing (isProper b) 1 (exchangeOf e)) _ (among, tt)
-    ∙ inOrder-met ((14 ⇒ isSized recordSize proofLimit p) ∷ []) 0 _ (size′, tt)
+    inOrder-met ((12 unless isSized transferSize exchangeLimit e) ∷ []) 0 _ (size, tt)
+    ∙ inOrder-met ((13 unless every (isProper b) (exchangeOf e)) ∷ []) (firstFailing (isProper b) 1 (exchangeOf e)) _ (among, tt)
+    ∙ inOrder-met ((14 unless isSized recordSize proofLimit p) ∷ []) 0 _ (size′, tt)
     ∙ h
 
 settle-met : (b : Book) (s : State) (e p : List ℕ) → judging b e p ≡ ok done → Covered s (exchangeOf e) → T (endsLimited b s (exchangeOf e))
     → replyTo b s (settle e p) ≡ ok done
 unfolding replyTo
 settle-met b s e p j c l =
-    rw j (inOrder-met ((22 ⇒ isCovered s (exchangeOf e)) ∷ (23 ⇒ endsLimited b s (exchangeOf e)) ∷ []) 0 (ok done) (c, (l, tt)))
+    rw j (inOrder-met ((22 unless isCovered s (exchangeOf e)) ∷ (23 unless endsLimited b s (exchangeOf e)) ∷ []) 0 (ok done) (c, (l, tt)))
 
 pub settles : (b : Book) → Shaped b → (s : State) → ((k : ℕ) → total s k ≤ sumLimit) → (e : List ℕ) → T (isSized transferSize exchangeLimit e)
     → Among b (exchangeOf e) → Fair b (exchangeOf e) → Covered s (exchangeOf e) → (p : List ℕ) × T (every isByte p) × (replyTo b s (settle e p) ≡ ok done)
@@ -139,14 +139,14 @@ early-chain b X p (suc n) i m P =
 early-judging : (b : Book) (e p : List ℕ) → Early (judging b e p)
 unfolding judging judge
 early-judging b e p =
-    early ((12 ⇒ isSized transferSize exchangeLimit e) ∷ []) 0 _ tt
-    (early ((13 ⇒ every (isProper b) (exchangeOf e)) ∷ []) (firstFailing (isProper b) 1 (exchangeOf e)) _ tt
-    (early ((14 ⇒ isSized recordSize proofLimit p) ∷ []) 0 _ tt
+    early ((12 unless isSized transferSize exchangeLimit e) ∷ []) 0 _ tt
+    (early ((13 unless every (isProper b) (exchangeOf e)) ∷ []) (firstFailing (isProper b) 1 (exchangeOf e)) _ tt
+    (early ((14 unless isSized recordSize proofLimit p) ∷ []) 0 _ tt
     (priced (chain b (exchangeOf e) p (length (exchangeOf e)) 1 (replicate (length (exchangeOf e)) false) [])
     (early-chain b (exchangeOf e) p (length (exchangeOf e)) 1 (replicate (length (exchangeOf e)) false) []))))
   where
-    priced : (x : Answer Exchange) → Early x → Early (andThen x (λ P. inOrder ((21 ⇒ contained P (exchangeOf e)) ∷ []) 0 (ok done)))
-    priced (ok P) k = early ((21 ⇒ contained P (exchangeOf e)) ∷ []) 0 (ok done) tt tt
+    priced : (x : Answer Exchange) → Early x → Early (andThen x (λ P. inOrder ((21 unless contained P (exchangeOf e)) ∷ []) 0 (ok done)))
+    priced (ok P) k = early ((21 unless contained P (exchangeOf e)) ∷ []) 0 (ok done) tt tt
     priced (refused n i) k = k
 
 pub never-23 : (b : Book) → length (b .cards) ≤ cardLimit → (s : State) → ((k : ℕ) → total s k ≤ sumLimit) → (e p : List ℕ) (i : ℕ) → replyTo b s (settle e p) ≢ refused 23 i
@@ -158,7 +158,7 @@ never-23 b few s limit e p i h = go (judging b e p) refl (early-judging b e p) h
     last false y f q = let z : _≡_ {A = ℕ} 22 23 = cc in omega arith
 
     go : (x : Reply) → judging b e p ≡ x → Early x
-        → andThen x (λ t. inOrder ((22 ⇒ isCovered s (exchangeOf e)) ∷ (23 ⇒ endsLimited b s (exchangeOf e)) ∷ []) 0 (ok done)) ≢ refused 23 i
+        → andThen x (λ t. inOrder ((22 unless isCovered s (exchangeOf e)) ∷ (23 unless endsLimited b s (exchangeOf e)) ∷ []) 0 (ok done)) ≢ refused 23 i
     go (ok t) j k q =
         last (isCovered s (exchangeOf e)) (endsLimited b s (exchangeOf e))
         (λ c. T-eq (endsLimited b s (exchangeOf e)) (ends-limited b few s (exchangeOf e) (judged-ok b e p t j .among) c limit)) q

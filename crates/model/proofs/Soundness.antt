@@ -10,7 +10,7 @@ use lib.Dec.{T, eqb, eqb→eq, T-not, eqb·suc-zero}
 use lib.ListN.{length, getD, set, replicate, length-set, length-replicate}
 use Rattle.model.specs.Limits.{recordSize}
 use Rattle.model.specs.Lists.{allTrue}
-use Rattle.model.specs.Questions.{ok, Told, done, _⇒_, inOrder}
+use Rattle.model.specs.Questions.{ok, Told, done, _unless_, inOrder}
 use Rattle.model.specs.Book.{Book, declared}
 use Rattle.model.specs.Transfers.{Transfer, Exchange, same, count, _~_, contained, noTransfer}
 use Rattle.model.specs.Fairness.{Approval, head, Fair, isProper, Among}
@@ -164,11 +164,11 @@ module _ (b : Book) (X : Exchange) (among : Among b X) where
 pub passed-fair : (b : Book) (X : Exchange) (p : List ℕ) (t : Told) → Among b X → judge b X p ≡ ok t → Fair b X
 unfolding judge
 passed-fair b X p t among h =
-    let c = andThen-ok (chain b X p (length X) 1 (replicate (length X) false) []) (λ P. inOrder ((21 ⇒ contained P X) ∷ []) 0 (ok done)) t h in
+    let c = andThen-ok (chain b X p (length X) 1 (replicate (length X) false) []) (λ P. inOrder ((21 unless contained P X) ∷ []) 0 (ok done)) t h in
     let P = c .0 in
     let g = gather b X among p (length X) 1 (replicate (length X) false) [] P [] (length-replicate (length X) false) (unclaimed-first (length X))
     (λ t. ap (count t) (sym (taken-none X))) (λ t. refl) (c .1) in
-    let q = inOrder-ok ((21 ⇒ contained P X) ∷ []) 0 (ok done) t (c .2) in
+    let q = inOrder-ok ((21 unless contained P X) ∷ []) 0 (ok done) t (c .2) in
     backed→fair b X (record { list = g .list; claims = g .claims; paid = λ t. omega (arith, g .pays t, contained→ P X (q .0 .0) t) })
 
 pub soundness : Soundness

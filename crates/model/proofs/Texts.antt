@@ -1,6 +1,6 @@
 -- A text opens exactly if it is printed lines that meet their questions, and is refused at its first line that fails: by the text's pieces.
 use mathlib.Core.Path.{_≡_, refl, _∙_, ap}
-use mathlib.Core.Bool.{Bool, true, false, cond}
+use mathlib.Core.Bool.{Bool, true, false, _&&_, _||_, cond}
 use mathlib.Core.List.{List, [], _∷_, _++_, map, append-assoc}
 use mathlib.Core.Logic.{_≢_}
 use mathlib.Core.Option.{Option, none, some}
@@ -8,20 +8,20 @@ use Prim.Native.Nat.{ℕ, suc, _+_, _≤_}
 use native.Mathlib.Omega.{arith}
 use lib.Dec.{T, eqb, leb}
 use lib.ListN.{length, length-append}
-use borrow.Author.Tests.{le-leb, leb-true, leb-false, eqb-true}
+use borrow.Author.Tests.{le-leb, leb-true, leb-false}
 use Rattle.model.specs.Limits.{textLimit, cardLimit, ruleLimit}
 use Rattle.model.specs.Lists.{every, ascii}
 use Rattle.model.specs.Questions.{Answer, ok, refused, andThen}
 use Rattle.model.specs.Grammar.{Line, card, group, rule, printLine, wellFormed, InGrammar}
-use Rattle.model.specs.Reader.{readLine, cut, readLines, readText}
+use Rattle.model.specs.Reader.{readLine, hasNoLF, cut}
 use Rattle.model.specs.Book.{Book, noBook}
 use Rattle.model.specs.Opening.{isCardNumber, lineQuestions, addLine, addLines, openLine, openLines, opening, withLine, yields, bookOf}
-use Rattle.model.specs.Theorems.{TextsRead, Admitted, OpensExactly, FailsAt, formless, unmet, FirstFailure, long, line, RefusedAtFirst}
+use Rattle.model.specs.Theorems.{Admitted, OpensExactly, FailsAt, formless, unmet, FirstFailure, long, line, RefusedAtFirst, GroupsRepeat}
 use Rattle.model.proofs.Tests.{and, both, ne-eqb, every-append}
 use Rattle.model.proofs.Facts.{facts, never}
 use Rattle.model.proofs.Questions.{AllMet, inOrder-ok, own-place}
 use Rattle.model.proofs.Lines.{lines-read}
-use Rattle.model.proofs.Cuts.{plain, plain-line, ended, Pieces, end, more, pieces, cut-end, cut-more, cut-printed}
+use Rattle.model.proofs.Cuts.{plain-line, ended, Pieces, end, more, pieces, cut-end, cut-more, cut-printed}
 
 -- ---- a text is read exactly if it is in the grammar
 
@@ -38,42 +38,6 @@ more-printed w t l ls e g =
     let p = lines-read w l .0 e in
     record { printed = rw (p .0, g .printed); formed = and (wellFormed l) _ (p .1) (g .formed) }
 
--- what is read was printed, by the text's pieces
-lines-printed : {t : List ℕ} → Pieces t → (ls : List Line) → eqb (length (cut t .last)) 0 ≡ true → readLines (cut t .lines) ≡ some ls → InGrammar t ls
-unfolding readLines
-lines-printed (end r h) ls e q =
-    let c = cut-end r h in
-    let y = empty r (eqb-true _ 0 (rw c at e)) in
-    let z : [] ≡ ls = cc (rw c at q) in
-    rw (y, ← z) no-lines
-lines-printed (more w t h s) ls e q =
-    let c = cut-more w t h in
-    go (readLine w) refl (readLines (cut t .lines)) refl (λ ms r. lines-printed s ms (rw c at e) r) (rw c at q)
-  where
-    go : (o : Option Line) → readLine w ≡ o → (os : Option (List Line)) → readLines (cut t .lines) ≡ os
-        → ((ms : List Line) → readLines (cut t .lines) ≡ some ms → InGrammar t ms) → readLines (w ∷ cut t .lines) ≡ some ls → InGrammar (ended w t) ls
-    go none p os r f e = let n : readLines (w ∷ cut t .lines) ≡ none = rw (p, readLines) in never (cc)
-    go (some l) p none r f e = let n : readLines (w ∷ cut t .lines) ≡ none = rw (p, r, readLines) in never (cc)
-    go (some l) p (some ms) r f e =
-        let n : readLines (w ∷ cut t .lines) ≡ some (l ∷ ms) = rw (p, r, readLines) in
-        let z : l ∷ ms ≡ ls = cc in
-        rw (← z) (more-printed w t l ms p (f ms r))
-
-printed-lines : (ls : List Line) → T (every wellFormed ls) → readLines (map printLine ls) ≡ some ls
-unfolding readLines
-printed-lines [] h = refl
-printed-lines (l ∷ ls) h =
-    let f = both (wellFormed l) _ h in
-    rw (lines-read (printLine l) l .1 (refl, f .0), printed-lines ls (f .1), readLines)
-
-pub texts-read : TextsRead
-unfolding readText
-texts-read t ls = (go (eqb (length (cut t .last)) 0) refl, λ g. rw (← g .printed, cut-printed ls) (printed-lines ls (g .formed)))
-  where
-    go : (f : Bool) → eqb (length (cut t .last)) 0 ≡ f → cond f (readLines (cut t .lines)) none ≡ some ls → InGrammar t ls
-    go true e q = lines-printed (pieces t) ls e q
-    go false e q = never (cc)
-
 -- ---- what an opening answers, and why
 
 -- the text opens as printed lines, or fails at the line behind those `above`
@@ -83,7 +47,7 @@ data Outcome (i : ℕ) (b : Book) (t : List ℕ) : Answer Book → Type 0 where
       → addLines i b above ≡ ok b′ → FailsAt j b′ rest n → j ≡ i + length above → Outcome i b t (refused n j)
 
 -- a text's lines begin with the one that its first LF ends
-first-line : (w t : List ℕ) → T (plain w) → cut (ended w t) .lines ≡ w ∷ cut t .lines
+first-line : (w t : List ℕ) → T (hasNoLF w) → cut (ended w t) .lines ≡ w ∷ cut t .lines
 first-line w t h = rw (cut-more w t h)
 
 same-lines : {s t : List ℕ} → s ≡ t → cut s .lines ≡ cut t .lines
@@ -95,7 +59,7 @@ module _ (i : ℕ) (b : Book) where
   fails-here t n f = failed [] t [] no-lines refl refl f (omega arith)
 
   -- what stands behind the last LF
-  at-end : (r : List ℕ) → T (plain r) → Outcome i b r (openLines i b [] r)
+  at-end : (r : List ℕ) → T (hasNoLF r) → Outcome i b r (openLines i b [] r)
   unfolding openLines addLines
   at-end [] h = opened [] no-lines refl
   at-end (x ∷ r) h = rw (ne-eqb (suc (length r)) 0 (omega arith)) (fails-here (x ∷ r) 2 (formless cons-not-nil other))
@@ -108,7 +72,7 @@ module _ (i : ℕ) (b : Book) where
           let c : cut (x ∷ r) .lines ≡ [] = rw (cut-end (x ∷ r) h) in
           never (cc (first-line (printLine l) t (plain-line l), same-lines e))
 
-  module _ (w t : List ℕ) (h : T (plain w)) where
+  module _ (w t : List ℕ) (h : T (hasNoLF w)) where
     -- a line of no form
     no-form : readLine w ≡ none → FailsAt i b (ended w t) 2
     unfolding cut
@@ -174,7 +138,7 @@ Says t (refused n i) = FirstFailure t n i
 
 says : {t : List ℕ} {a : Answer Book} → length t ≤ textLimit → Outcome 1 noBook t a → Says t a
 says l (opened ls g a) = record { lines = ls; grammar = g; short = l; limits = a }
-says l (failed above rest text g s a f z) = rw z (line above rest (g .formed) (rw (g .printed) s) a (rw z at f))
+says l (failed above rest text g s a f z) = rw z (line above rest l (g .formed) (rw (g .printed) s) a (rw z at f))
 
 opening-says : (t : List ℕ) → Says t (opening t)
 unfolding opening
@@ -195,6 +159,14 @@ opens-exactly t b = (λ e. rw e at (opening-says t), back)
 
 pub refused-at-first : RefusedAtFirst
 refused-at-first t n i e = rw e at (opening-says t)
+
+pub groups-repeat : GroupsRepeat
+groups-repeat b g m = λ i. record { cards = b .cards; member = λ h n. twice (b .member h n) (eqb h g && eqb n m) i; rules = b .rules }
+  where
+    twice : (x y : Bool) → ((x || y) || y) ≡ (x || y)
+    twice true y = refl
+    twice false true = refl
+    twice false false = refl
 
 -- ---- the book of an opened text
 

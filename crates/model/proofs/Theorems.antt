@@ -8,10 +8,11 @@ use Rattle.model.specs.Opening.{bookOf}
 use Rattle.model.specs.Fairness.{variables}
 use Rattle.model.specs.Calls.{issue, redeem, settle}
 use Rattle.model.specs.History.{stateAfter, replyAfter}
-use Rattle.model.specs.Theorems.{LinesRead, TextsRead, OpensExactly, RefusedAtFirst, Soundness, Completeness, FairnessDecided, Conservation, EveryHistory, CountingIsPermutation}
+use Rattle.model.specs.Theorems.{LinesRead, TextsCut, OpensExactly, RefusedAtFirst, GroupsRepeat, Soundness, Completeness, FairnessDecided, Conservation, EveryHistory, CountingIsPermutation}
 use Rattle.model.specs.Swaps.{EverySwap}
 use Rattle.model.proofs.Tests.{every-map}
 use Rattle.model.proofs.Lines as Lines
+use Rattle.model.proofs.Cuts as Cuts
 use Rattle.model.proofs.Texts as Texts
 use Rattle.model.proofs.RuleVariables.{rule-letters}
 use Rattle.model.proofs.Permutations as Permutations
@@ -23,13 +24,13 @@ use Rattle.model.proofs.Conservation as Conserved
 use Rattle.model.proofs.Histories as History
 use Rattle.model.proofs.Swaps as Swaps
 
--- ---- 1. the grammar
+-- ---- the grammar
 
 pub lines-read : LinesRead
 lines-read = Lines.lines-read
 
-pub texts-read : TextsRead
-texts-read = Texts.texts-read
+pub texts-cut : TextsCut
+texts-cut = Cuts.texts-cut
 
 pub opens-exactly : OpensExactly
 opens-exactly = Texts.opens-exactly
@@ -37,7 +38,10 @@ opens-exactly = Texts.opens-exactly
 pub refused-at-first : RefusedAtFirst
 refused-at-first = Texts.refused-at-first
 
--- ---- 2, 3, 4. proofs and fairness
+pub groups-repeat : GroupsRepeat
+groups-repeat = Texts.groups-repeat
+
+-- ---- proofs and fairness
 
 pub soundness : Soundness
 soundness = Sound.soundness
@@ -58,7 +62,7 @@ completeness text = Complete.complete (bookOf text) (shaped text)
 pub fairness-decided : FairnessDecided
 fairness-decided text = Deciding.decides (bookOf text) (shaped text .lettered)
 
--- ---- 5. sums of a kind
+-- ---- sums of a kind
 
 pub conservation : Conservation
 unfolding replyAfter
@@ -73,12 +77,12 @@ conservation = record {
       Settling.never-23 (bookOf text) (shaped text .cards≤) (stateAfter (bookOf text) h) (History.kept (bookOf text) (shaped text) h .limit) e p i;
 }
 
--- ---- 6. histories
+-- ---- histories
 
 pub every-history : EveryHistory
 every-history text h = History.histories (bookOf text) (shaped text) h
 
--- ---- 7. counting
+-- ---- counting
 
 pub counting-is-permutation : CountingIsPermutation
 counting-is-permutation = Permutations.counting-is-permutation

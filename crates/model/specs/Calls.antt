@@ -6,7 +6,7 @@ use lib.Dec.{eqb, leb}
 use lib.ListN.{length}
 use Rattle.model.specs.Limits.{transferSize, exchangeLimit, recordSize, proofLimit, sumLimit, kindCount}
 use Rattle.model.specs.Lists.{every, firstFailing, oneIf, oneTo}
-use Rattle.model.specs.Questions.{ok, refused, done, holding, Reply, Question, _⇒_, inOrder, andThen}
+use Rattle.model.specs.Questions.{ok, refused, done, holding, Reply, Question, _unless_, inOrder, andThen}
 use Rattle.model.specs.Grammar.{isKind}
 use Rattle.model.specs.Book.{Book, declared}
 use Rattle.model.specs.Transfers.{Exchange, exchangeOf}
@@ -24,7 +24,7 @@ pub data Call : Type 0 where
 
 -- "Is the card declared? 8. Is the kind 1 to 16? 9"
 abbrev pub accountQuestions : Book → ℕ → ℕ → List Question
-accountQuestions b c k = (8 ⇒ declared b c) ∷ (9 ⇒ isKind k) ∷ []
+accountQuestions b c k = (8 unless declared b c) ∷ (9 unless isKind k) ∷ []
 
 -- one record or transfer at least, at most so many bytes, and a multiple of its size
 abbrev pub isSized : ℕ → ℕ → List ℕ → Bool
@@ -37,23 +37,23 @@ endsLimited b s X = every (λ c. every (λ k. leb (settled s X c k) sumLimit) (o
 -- questions 12 to 21
 unfoldable pub judging : Book → List ℕ → List ℕ → Reply
 judging b e p =
-    inOrder ((12 ⇒ isSized transferSize exchangeLimit e) ∷ []) 0
-    (inOrder ((13 ⇒ every (isProper b) (exchangeOf e)) ∷ []) (firstFailing (isProper b) 1 (exchangeOf e))
-    (inOrder ((14 ⇒ isSized recordSize proofLimit p) ∷ []) 0
+    inOrder ((12 unless isSized transferSize exchangeLimit e) ∷ []) 0
+    (inOrder ((13 unless every (isProper b) (exchangeOf e)) ∷ []) (firstFailing (isProper b) 1 (exchangeOf e))
+    (inOrder ((14 unless isSized recordSize proofLimit p) ∷ []) 0
     (judge b (exchangeOf e) p)))
 
 -- questions 22 and 23
 abbrev pub lastQuestions : Book → State → Exchange → Reply
-lastQuestions b s X = inOrder ((22 ⇒ isCovered s X) ∷ (23 ⇒ endsLimited b s X) ∷ []) 0 (ok done)
+lastQuestions b s X = inOrder ((22 unless isCovered s X) ∷ (23 unless endsLimited b s X) ∷ []) 0 (ok done)
 
 unfoldable pub replyTo : Book → State → Call → Reply
 unfolding judging
-replyTo b s (issue c k n) = inOrder (accountQuestions b c k ++ ((10 ⇒ leb (total s k + n) sumLimit) ∷ [])) 0 (ok done)
-replyTo b s (redeem c k n) = inOrder (accountQuestions b c k ++ ((11 ⇒ leb n (s .held c k)) ∷ [])) 0 (ok done)
+replyTo b s (issue c k n) = inOrder (accountQuestions b c k ++ ((10 unless leb (total s k + n) sumLimit) ∷ [])) 0 (ok done)
+replyTo b s (redeem c k n) = inOrder (accountQuestions b c k ++ ((11 unless leb n (s .held c k)) ∷ [])) 0 (ok done)
 replyTo b s (query c k) = inOrder (accountQuestions b c k) 0 (ok (holding (s .held c k)))
 replyTo b s (settle e p) = andThen (judging b e p) (λ t. lastQuestions b s (exchangeOf e))
 
--- ---- what a call that is not refused issues, redeems, brings and takes, at each card and kind
+-- ---- what a call that is not refused issues, redeems and moves, at card d and kind j
 
 -- n at card c and kind k, 0 elsewhere
 abbrev pub amount : ℕ → ℕ → ℕ → ℕ → ℕ → ℕ
@@ -71,17 +71,18 @@ redeems (redeem c k n) d j = amount c k n d j
 redeems (query c k) d j = 0
 redeems (settle e p) d j = 0
 
-abbrev pub brings : Call → ℕ → ℕ → ℕ
-brings (issue c k n) d j = 0
-brings (redeem c k n) d j = 0
-brings (query c k) d j = 0
-brings (settle e p) d j = receives d j (exchangeOf e)
+-- the exchange that the call settles
+abbrev pub exchangeIn : Call → Exchange
+exchangeIn (issue c k n) = []
+exchangeIn (redeem c k n) = []
+exchangeIn (query c k) = []
+exchangeIn (settle e p) = exchangeOf e
 
-abbrev pub takes : Call → ℕ → ℕ → ℕ
-takes (issue c k n) d j = 0
-takes (redeem c k n) d j = 0
-takes (query c k) d j = 0
-takes (settle e p) d j = gives d j (exchangeOf e)
+abbrev pub receivedIn : Call → ℕ → ℕ → ℕ
+receivedIn call d j = receives d j (exchangeIn call)
+
+abbrev pub givenIn : Call → ℕ → ℕ → ℕ
+givenIn call d j = gives d j (exchangeIn call)
 
 -- ---- the state afterwards
 
@@ -90,7 +91,7 @@ isRefused (ok t) = false
 isRefused (refused n i) = true
 
 abbrev pub changed : State → Call → State
-changed s call = record { held = λ d j. (s .held d j + (issues call d j + brings call d j)) - (redeems call d j + takes call d j) }
+changed s call = record { held = λ d j. (s .held d j + (issues call d j + receivedIn call d j)) - (redeems call d j + givenIn call d j) }
 
 -- a refused call changes no holding
 unfoldable pub after : Book → State → Call → State

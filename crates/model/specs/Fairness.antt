@@ -61,13 +61,18 @@ holds b r ρ (sameIssuer y z) = samePrefix b (cardOf (r .owner) ρ y) (cardOf (r
 
 -- ---- "approval" (definitions 3.1, 3.3)
 
+-- a rule with cards for its variables
 pub record Approval (b : Book) : Type 0 where
   pub number : ℕ
   pub exists : T (within number (length (b .rules)))
   pub cards : Assignment
+  -- "a declared card for each variable of the rule"
   pub known : T (every (λ v. declared b (cards v)) (variables (ruleAt b number)))
+  -- "giver and receiver differ" in the head
   pub apart : ruleAt b number .owner ≢ cards (ruleAt b number .head)
+  -- and in every price, none of which has "the owner as giver"
   pub payable : T (every (isPayable (ruleAt b number .owner)) (pricesOf (ruleAt b number) cards))
+  -- "every condition holds"
   pub met : T (every (holds b (ruleAt b number) cards) (ruleAt b number .conditions))
 
 module _ {b : Book} where
@@ -102,11 +107,11 @@ abbrev pub together : (ℕ → Exchange) → ℕ → Exchange
 together W zero = []
 together W (suc n) = W (suc n) ++ together W n
 
--- every card has such a W, and all the W together are contained in the exchange
+-- every declared card has such a W, and all the W together are contained in the exchange; that only declared cards give is question 13
 pub record Fair (b : Book) (X : Exchange) : Type 0 where
   pub because : ℕ → Exchange
   pub accepted : (c : ℕ) → T (declared b c) → Accepts b c (because c) X
-  pub together-paid : together because (length (b .cards)) ⊑ X
+  pub contained : together because (length (b .cards)) ⊑ X
 
 -- ---- "among the cards": question 13
 

@@ -6,7 +6,7 @@ use lib.Dec.{eqb}
 use lib.ListN.{length, getD, set, take, drop, replicate}
 use Rattle.model.specs.Limits.{recordSize, variableCount}
 use Rattle.model.specs.Lists.{within, every, any, allTrue, upTo}
-use Rattle.model.specs.Questions.{Answer, ok, done, Reply, Question, _⇒_, inOrder, andThen}
+use Rattle.model.specs.Questions.{Answer, ok, done, Reply, Question, _unless_, inOrder, andThen}
 use Rattle.model.specs.Grammar.{Rule}
 use Rattle.model.specs.Book.{Book, declared, ruleAt}
 use Rattle.model.specs.Transfers.{Transfer, Exchange, contained, noTransfer}
@@ -53,23 +53,23 @@ uses r v = any (eqb v) (variables r)
 abbrev pub recordQuestions : Book → Exchange → ℕ → List ℕ → List Bool → List Question
 recordQuestions b X n r m =
     -- is the transfer in the exchange and not claimed earlier in the chain?
-    (15 ⇒ within (claim r) (length X)) ∷
-    (15 ⇒ not (getD m (claim r - 1) true)) ∷
+    (15 unless within (claim r) (length X)) ∷
+    (15 unless not (getD m (claim r - 1) true)) ∷
     -- does the rule exist, with the transfer's giver and kind?
-    (16 ⇒ within (ruleNumber r) (length (b .rules))) ∷
-    (16 ⇒ eqb (ruleOf b r .owner) (claimed X r .giver)) ∷
-    (16 ⇒ eqb (ruleOf b r .kind) (claimed X r .kind)) ∷
+    (16 unless within (ruleNumber r) (length (b .rules))) ∷
+    (16 unless eqb (ruleOf b r .owner) (claimed X r .giver)) ∷
+    (16 unless eqb (ruleOf b r .kind) (claimed X r .kind)) ∷
     -- is byte 3 zero, each used variable a declared card, the head's variable the receiver, each unused one zero?
-    (17 ⇒ eqb (getD r 3 0) 0) ∷
-    (17 ⇒ every (λ v. declared b (cards r v)) (variables (ruleOf b r))) ∷
-    (17 ⇒ eqb (cards r (ruleOf b r .head)) (claimed X r .receiver)) ∷
-    (17 ⇒ every (λ v. uses (ruleOf b r) v || eqb (cards r v) 0) (upTo (λ v. v) variableCount)) ∷
+    (17 unless eqb (getD r 3 0) 0) ∷
+    (17 unless every (λ v. declared b (cards r v)) (variables (ruleOf b r))) ∷
+    (17 unless eqb (cards r (ruleOf b r .head)) (claimed X r .receiver)) ∷
+    (17 unless every (λ v. uses (ruleOf b r) v || eqb (cards r v) 0) (upTo (λ v. v) variableCount)) ∷
     -- have all prices giver and receiver different and a giver other than the owner?
-    (18 ⇒ every (isPayable (ruleOf b r .owner)) (asked b r)) ∷
+    (18 unless every (isPayable (ruleOf b r .owner)) (asked b r)) ∷
     -- do all conditions hold?
-    (19 ⇒ every (holds b (ruleOf b r) (cards r)) (ruleOf b r .conditions)) ∷
+    (19 unless every (holds b (ruleOf b r) (cards r)) (ruleOf b r .conditions)) ∷
     -- is next zero if every transfer is claimed by now, and otherwise a record of the proof?
-    (20 ⇒ cond (allTrue (marked m r)) (eqb (next r) 0) (within (next r) n)) ∷ []
+    (20 unless cond (allTrue (marked m r)) (eqb (next r) 0) (within (next r) n)) ∷ []
 
 -- The chain from record i on, to the prices of all its records. `left` transfers are not claimed yet: each record that passes
 -- question 15 claims one more, and question 20 ends the chain with the last. m: what is claimed; P: the prices so far.
@@ -85,4 +85,4 @@ unfoldable pub judge : Book → Exchange → List ℕ → Reply
 unfolding chain
 judge b X p =
     andThen (chain b X p (length X) 1 (replicate (length X) false) [])
-    (λ P. inOrder ((21 ⇒ contained P X) ∷ []) 0 (ok done))
+    (λ P. inOrder ((21 unless contained P X) ∷ []) 0 (ok done))

@@ -3,7 +3,7 @@ use mathlib.Core.Bool.{Bool, cond}
 use mathlib.Core.List.{List, [], _∷_}
 use Prim.Native.Nat.{ℕ}
 
-infix 20 _⇒_
+infix 20 _unless_
 -- What a call answers, or the refusal: its number and its place.
 pub data Answer (A : Type 0) : Type 0 where
   ok : A → Answer A
@@ -22,8 +22,8 @@ pub record Question : Type 0 where
   pub number : ℕ
   pub met : Bool
 
-abbrev pub _⇒_ : ℕ → Bool → Question
-n ⇒ x = record { number = n; met = x }
+abbrev pub _unless_ : ℕ → Bool → Question
+n unless x = record { number = n; met = x }
 
 -- the number of the first question that is not met; 0 where each is
 abbrev pub firstUnmet : List Question → ℕ

@@ -1,14 +1,15 @@
--- "Swaps that tempt": the cases of document 01 that are marked P, as the rows of one table, and what each row claims.
+-- The cases of document 01 that are marked P ("Swaps that tempt"), as the rows of one table, and what each row says.
 use mathlib.Core.Path.{_≡_}
 use mathlib.Core.Bool.{true, false}
 use mathlib.Core.List.{List, [], _∷_, _++_, map}
+use Prim.Native.Char.{code}
 use Prim.Native.Nat.{ℕ, _-_}
 use Prim.Native.String.{String}
 use Rattle.model.specs.Lists.{each, ascii}
 use Rattle.model.specs.Questions.{ok, refused, done, Reply}
 use Rattle.model.specs.CardNumbers.{luhn}
-use Rattle.model.specs.Book.{Book}
-use Rattle.model.specs.Opening.{opening, bookOf}
+use Rattle.model.specs.Book.{Book, noBook}
+use Rattle.model.specs.Opening.{opening}
 use Rattle.model.specs.Transfers.{Transfer, Exchange}
 use Rattle.model.specs.Fairness.{Fair}
 use Rattle.model.specs.Calls.{Call, issue, settle, judging}
@@ -50,8 +51,8 @@ abbrev pub D : ℕ
 D = 4
 
 -- 1 A 2: card 1 gives kind A to card 2
-abbrev pub gives : ℕ → ℕ → ℕ → Transfer
-gives m k n = record { giver = m; kind = k; receiver = n }
+abbrev pub transfer : ℕ → ℕ → ℕ → Transfer
+transfer m k n = record { giver = m; kind = k; receiver = n }
 
 -- an exchange as bytes
 abbrev pub bytesOf : Exchange → List ℕ
@@ -59,47 +60,47 @@ bytesOf [] = []
 bytesOf (t ∷ X) = t .giver ∷ t .kind ∷ t .receiver ∷ bytesOf X
 
 -- a proof record: next, transfer, rule, and the cards for a and b
-abbrev pub claims : ℕ → ℕ → ℕ → ℕ → ℕ → List ℕ
-claims next transfer rule a b = next ∷ transfer ∷ rule ∷ 0 ∷ a ∷ b ∷ 0 ∷ 0 ∷ 0 ∷ 0 ∷ 0 ∷ 0 ∷ []
+abbrev pub proofRecord : ℕ → ℕ → ℕ → ℕ → ℕ → List ℕ
+proofRecord next transfer rule a b = next ∷ transfer ∷ rule ∷ 0 ∷ a ∷ b ∷ 0 ∷ 0 ∷ 0 ∷ 0 ∷ 0 ∷ 0 ∷ []
 
 abbrev pub digits : String → List ℕ
-digits s = map (λ x. x - 48) (ascii s)
+digits s = map (λ x. x - code "0") (ascii s)
 
--- ---- rows and what they claim
+-- ---- rows and what they say
 
 pub data Row : Type 0 where
   passes fails : String → Row
   fair unfair : Exchange → Row
   judged : Exchange → List ℕ → ℕ → ℕ → Row
   replied : History → Call → Reply → Row
-  opens : List ℕ → Row
+  opensEmpty : List ℕ → Row
   opensNot : List ℕ → ℕ → ℕ → Row
 
 -- over the book b
-abbrev pub Claim : Book → Row → Type 0
-Claim b (passes ds) = luhn (digits ds) ≡ true
-Claim b (fails ds) = luhn (digits ds) ≡ false
-Claim b (fair X) = Fair b X
-Claim b (unfair X) = Fair b X → ⊥
-Claim b (judged X p n i) = judging b (bytesOf X) p ≡ refused n i
-Claim b (replied h call r) = replyAfter b h call ≡ r
-Claim b (opens t) = (c : Book) × (opening t ≡ ok c)
-Claim b (opensNot t n i) = opening t ≡ refused n i
+abbrev pub Says : Book → Row → Type 0
+Says b (passes ds) = luhn (digits ds) ≡ true
+Says b (fails ds) = luhn (digits ds) ≡ false
+Says b (fair X) = Fair b X
+Says b (unfair X) = Fair b X → ⊥
+Says b (judged X p n i) = judging b (bytesOf X) p ≡ refused n i
+Says b (replied h call r) = replyAfter b h call ≡ r
+Says b (opensEmpty t) = opening t ≡ ok noBook
+Says b (opensNot t n i) = opening t ≡ refused n i
 
 -- ---- the table
 
 -- P8's exchange, its proof by the rules 7, 8, 4, 5, and issues to its givers
 abbrev pub swap8 : Exchange
-swap8 = gives 1 A 2 ∷ gives 2 D 1 ∷ gives 2 B 3 ∷ gives 3 D 2 ∷ []
+swap8 = transfer 1 A 2 ∷ transfer 2 D 1 ∷ transfer 2 B 3 ∷ transfer 3 D 2 ∷ []
 
 abbrev pub settle8 : Call
-settle8 = settle (bytesOf swap8) (claims 2 1 7 2 2 ++ claims 3 2 8 1 0 ++ claims 4 3 4 3 0 ++ claims 0 4 5 2 2)
+settle8 = settle (bytesOf swap8) (proofRecord 2 1 7 2 2 ++ proofRecord 3 2 8 1 0 ++ proofRecord 4 3 4 3 0 ++ proofRecord 0 4 5 2 2)
 
 abbrev pub issues8 : History
 issues8 = start ▸ issue 1 A 1 ▸ issue 2 B 1 ▸ issue 3 D 1
 
 abbrev pub swap6 : Exchange
-swap6 = gives 3 D 2 ∷ gives 1 B 3 ∷ gives 2 B 3 ∷ []
+swap6 = transfer 3 D 2 ∷ transfer 1 B 3 ∷ transfer 2 B 3 ∷ []
 
 abbrev pub table : List Row
 table =
@@ -107,31 +108,31 @@ table =
     passes "700012000019" ∷
     fails "700012000018" ∷
     -- P3, P4: the ring, and without 3 C 1
-    fair (gives 1 A 2 ∷ gives 2 B 3 ∷ gives 3 C 1 ∷ []) ∷
-    unfair (gives 1 A 2 ∷ gives 2 B 3 ∷ []) ∷
+    fair (transfer 1 A 2 ∷ transfer 2 B 3 ∷ transfer 3 C 1 ∷ []) ∷
+    unfair (transfer 1 A 2 ∷ transfer 2 B 3 ∷ []) ∷
     -- P5
-    fair (gives 3 D 2 ∷ gives 1 B 3 ∷ []) ∷
+    fair (transfer 3 D 2 ∷ transfer 1 B 3 ∷ []) ∷
     -- P6: one D pays twice; by the rules 5, 6, 4 it is 21
     unfair swap6 ∷
-    judged swap6 (claims 2 1 5 2 1 ++ claims 3 2 6 3 2 ++ claims 0 3 4 3 0) 21 0 ∷
+    judged swap6 (proofRecord 2 1 5 2 1 ++ proofRecord 3 2 6 3 2 ++ proofRecord 0 3 4 3 0) 21 0 ∷
     -- P7: with a second 3 D 2
-    fair (swap6 ++ (gives 3 D 2 ∷ [])) ∷
+    fair (swap6 ++ (transfer 3 D 2 ∷ [])) ∷
     -- P8: fair, yet 22 while card 2 holds no D, though it holds B; settled once it holds one
     fair swap8 ∷
     replied issues8 settle8 (refused 22 0) ∷
     replied (issues8 ▸ issue 2 D 1) settle8 (ok done) ∷
     -- P9: 2 B 1 by rule 4 with a = 1
-    judged (gives 2 B 1 ∷ []) (claims 0 1 4 1 0) 19 1 ∷
+    judged (transfer 2 B 1 ∷ []) (proofRecord 0 1 4 1 0) 19 1 ∷
     -- P10: 1 A 2 by rule 1 with a = 2, b = 1
-    judged (gives 1 A 2 ∷ []) (claims 0 1 1 2 1) 18 1 ∷
+    judged (transfer 1 A 2 ∷ []) (proofRecord 0 1 1 2 1) 18 1 ∷
     -- P11, P12
-    opens [] ∷
+    opensEmpty [] ∷
     opensNot (lines ("C 700012000019" ∷ "C 700012000019" ∷ [])) 5 2 ∷ []
 
 abbrev pub EveryRow : Book → List Row → Type 0
 EveryRow b [] = Unit {0}
-EveryRow b (r ∷ rs) = Claim b r × EveryRow b rs
+EveryRow b (r ∷ rs) = Says b r × EveryRow b rs
 
--- one statement over the table, with the book that is read from book.txt
+-- one statement over the table: book.txt opens, and the rows say what is so of its book
 abbrev pub EverySwap : Type 0
-EverySwap = EveryRow (bookOf bookText) table
+EverySwap = (b : Book) × (opening bookText ≡ ok b) × EveryRow b table

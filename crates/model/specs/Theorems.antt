@@ -7,12 +7,12 @@ use Prim.Native.Nat.{ℕ, _+_, _*_, _≤_, _<_}
 use lib.Dec.{T}
 use lib.ListN.{length}
 use Rattle.model.specs.Limits.{textLimit, cardLimit, transferSize, exchangeLimit, recordSize, proofLimit}
-use Rattle.model.specs.Lists.{isByte, every, ascii}
+use Rattle.model.specs.Lists.{isByte, every, each, ascii}
 use Rattle.model.specs.Questions.{ok, refused, done}
-use Rattle.model.specs.Grammar.{Line, printLine, printText, wellFormed, InGrammar}
-use Rattle.model.specs.Reader.{readLine, readText}
+use Rattle.model.specs.Grammar.{Line, group, printLine, printText, wellFormed, InGrammar}
+use Rattle.model.specs.Reader.{readLine, hasNoLF, cut}
 use Rattle.model.specs.Book.{Book, noBook}
-use Rattle.model.specs.Opening.{addLine, addLines, opening, bookOf}
+use Rattle.model.specs.Opening.{withLine, addLine, addLines, opening, bookOf}
 use Rattle.model.specs.Transfers.{Exchange, _~_, exchangeOf}
 use Rattle.model.specs.Fairness.{Fair, Among}
 use Rattle.model.specs.Holdings.{State, Covered, MovedExactly, sumTo, total}
@@ -21,15 +21,20 @@ use Rattle.model.specs.Calls.{issue, redeem, settle, isSized, amount, re
 use Rattle.model.specs.History.{History, _▸_, issued, redeemed, received, given, notRefused, stateAfter, replyAfter}
 use Rattle.model.specs.Decision.{isFair}
 
--- ---- 1. The grammar, both ways
+-- ---- The grammar, both ways
 
 -- a line is read exactly if it is a printed well-formed line, and it is read back
 abbrev pub LinesRead : Type 0
 LinesRead = (w : List ℕ) (l : Line) → (readLine w ≡ some l) ↔ ((printLine l ≡ w) × T (wellFormed l))
 
--- and so is a text
-abbrev pub TextsRead : Type 0
-TextsRead = (t : List ℕ) (ls : List Line) → (readText t ≡ some ls) ↔ InGrammar t ls
+-- a text is cut at its LFs and nowhere else: the lines, each with its LF, and what stands behind the last one are the text
+pub record CutAtLF (t : List ℕ) : Type 0 where
+  pub whole : each (λ w. w ++ ascii "\n") (cut t .lines) ++ cut t .last ≡ t
+  pub lines : T (every hasNoLF (cut t .lines))
+  pub last : T (hasNoLF (cut t .last))
+
+abbrev pub TextsCut : Type 0
+TextsCut = (t : List ℕ) → CutAtLF t
 
 -- an opening succeeds exactly if the text is in the grammar and meets questions 1 and 3 to 7
 pub record Admitted (t : List ℕ) (b : Book) : Type 0 where
@@ -48,16 +53,20 @@ pub data FailsAt (i : ℕ) (b : Book) (rest : List ℕ) : ℕ → Type 0 where
   -- it begins with one that does not meet question n
   unmet : {n : ℕ} (l : Line) (more : List ℕ) → T (wellFormed l) → printLine l ++ ascii "\n" ++ more ≡ rest → addLine i b l ≡ refused n i → FailsAt i b rest n
 
--- a refusal is at the first line that fails
+-- question 1 comes first; then a refusal is at the first line that fails
 pub data FirstFailure (t : List ℕ) : ℕ → ℕ → Type 0 where
   long : textLimit < length t → FirstFailure t 1 0
-  line : {n : ℕ} {b : Book} (above : List Line) (rest : List ℕ) → T (every wellFormed above) → printText above ++ rest ≡ t
+  line : {n : ℕ} {b : Book} (above : List Line) (rest : List ℕ) → length t ≤ textLimit → T (every wellFormed above) → printText above ++ rest ≡ t
       → addLines 1 noBook above ≡ ok b → FailsAt (1 + length above) b rest n → FirstFailure t n (1 + length above)
 
 abbrev pub RefusedAtFirst : Type 0
 RefusedAtFirst = (t : List ℕ) (n i : ℕ) → opening t ≡ refused n i → FirstFailure t n i
 
--- ---- 2, 3, 4. Proofs and fairness
+-- "Repeating it changes nothing"
+abbrev pub GroupsRepeat : Type 0
+GroupsRepeat = (b : Book) (g m : ℕ) → withLine (withLine b (group g m)) (group g m) ≡ withLine b (group g m)
+
+-- ---- Proofs and fairness
 
 -- the bytes pass questions 15 to 21
 abbrev pub Passes : Book → Exchange → List ℕ → Type 0
@@ -73,7 +82,8 @@ pub record ProofOf (b : Book) (X : Exchange) : Type 0 where
   pub sized : T (isSized recordSize proofLimit bytes)
   pub passes : Passes b X bytes
 
--- a fair exchange of 1 to 32 transfers among the cards has a proof
+-- A fair exchange of 1 to 32 transfers among the cards has a proof. The book is a text's, since a proof's bytes hold no more than its
+-- limits: 32 cards, 56 rules, the variables a to h.
 abbrev pub Completeness : Type 0
 Completeness =
     (text : List ℕ) (X : Exchange) → Among (bookOf text) X → 1 ≤ length X → length X * transferSize ≤ exchangeLimit
@@ -82,12 +92,13 @@ Completeness =
 abbrev pub FairnessDecided : Type 0
 FairnessDecided = (text : List ℕ) (X : Exchange) → Among (bookOf text) X → T (isFair (bookOf text) X) ↔ Fair (bookOf text) X
 
--- ---- 5. Sums of a kind
+-- ---- Sums of a kind
 
 pub record Conservation : Type 0 where
   -- no settlement creates or destroys tokens
   pub settling : (text : List ℕ) (s : State) (e p : List ℕ) (k : ℕ) → replyTo (bookOf text) s (settle e p) ≡ ok done
       → total (after (bookOf text) s (settle e p)) k ≡ total s k
+  -- other kinds stay: `amount c j n c k` is n where k is j, else 0
   pub issuing : (text : List ℕ) (s : State) (c j n k : ℕ) → replyTo (bookOf text) s (issue c j n) ≡ ok done
       → total (after (bookOf text) s (issue c j n)) k ≡ total s k + amount c j n c k
   pub redeeming : (text : List ℕ) (s : State) (c j n k : ℕ) → replyTo (bookOf text) s (redeem c j n) ≡ ok done
@@ -95,11 +106,11 @@ pub record Conservation : Type 0 where
   -- question 23 is never the first that is answered no
   pub never23 : (text : List ℕ) (h : History) (e p : List ℕ) (i : ℕ) → replyAfter (bookOf text) h (settle e p) ≢ refused 23 i
 
--- ---- 6. Histories
+-- ---- Histories
 
--- "has a proof that settles it next"
-abbrev pub HasSettlingProof : Book → History → List ℕ → Type 0
-HasSettlingProof b h e = (p : List ℕ) × T (every isByte p) × (replyAfter b h (settle e p) ≡ ok done)
+-- "It has a proof that settles it next if some bytes, sent as its proof with a settlement right after the list, meet no refusal."
+abbrev pub HasSettlingProof : Book → State → List ℕ → Type 0
+HasSettlingProof b s e = (p : List ℕ) × T (every isByte p) × (replyTo b s (settle e p) ≡ ok done)
 
 pub record Histories (b : Book) (h : History) : Type 0 where
   -- nothing is subtracted below zero
@@ -112,13 +123,13 @@ pub record Histories (b : Book) (h : History) : Type 0 where
   pub sums : (k : ℕ) → total (stateAfter b h) k + sumTo (λ c. redeemed (notRefused b h) c k) cardLimit ≡ sumTo (λ c. issued (notRefused b h) c k) cardLimit
   -- an exchange of 1 to 32 transfers among the cards has settling bytes exactly if it is fair and covered
   pub settles : (e : List ℕ) → T (isSized transferSize exchangeLimit e) → Among b (exchangeOf e)
-      → HasSettlingProof b h e ↔ (Fair b (exchangeOf e) × Covered (stateAfter b h) (exchangeOf e))
+      → HasSettlingProof b (stateAfter b h) e ↔ (Fair b (exchangeOf e) × Covered (stateAfter b h) (exchangeOf e))
 
 -- for every text, refused ones too, and every list of calls
 abbrev pub EveryHistory : Type 0
 EveryHistory = (text : List ℕ) (h : History) → Histories (bookOf text) h
 
--- ---- 7. Counting is permutation, as the library defines it
+-- ---- Counting is permutation, as the library defines it
 
 abbrev pub CountingIsPermutation : Type 0
 CountingIsPermutation = (X Y : Exchange) → (X ~ Y) ↔ List·Permᴰ X Y

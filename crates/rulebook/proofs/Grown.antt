@@ -103,31 +103,31 @@ module _ (t : Tables) (row : List ℕ) (room : t .rules < 56) (sized : length ro
 -- ---- a member more
 
 module _ (groups : List ℕ) (g m : ℕ) (g-low : 1 ≤ g) (g-high : g ≤ 8) (m-low : 1 ≤ m) (m-high : m ≤ 32) (wide : length groups ≡ 256) where
-  abbrev spot : ℕ → ℕ → ℕ
-  spot h n = (n - 1) * 8 + (h - 1)
+  abbrev indexOf : ℕ → ℕ → ℕ
+  indexOf h n = (n - 1) * 8 + (h - 1)
 
-  member-here : memberView (set groups (spot g m) 1) g m ≡ true
+  member-here : memberView (set groups (indexOf g m) 1) g m ≡ true
   unfolding memberView
   member-here =
-      rw (le-leb 1 g g-low, le-leb g 8 g-high, le-leb 1 m m-low, le-leb m 32 m-high, getD-set-same groups (spot g m) 1 0 (omega arith))
+      rw (le-leb 1 g g-low, le-leb g 8 g-high, le-leb 1 m m-low, le-leb m 32 m-high, getD-set-same groups (indexOf g m) 1 0 (omega arith))
 
-  member-there : (h n : ℕ) → ((h ≡ g) × (n ≡ m) → ⊥) → memberView (set groups (spot g m) 1) h n ≡ memberView groups h n
+  member-there : (h n : ℕ) → ((h ≡ g) × (n ≡ m) → ⊥) → memberView (set groups (indexOf g m) 1) h n ≡ memberView groups h n
   unfolding memberView
   member-there h n d = go (within h 8) (within n 32) refl refl
     where
       go : (a b : Bool) → within h 8 ≡ a → within n 32 ≡ b
-          → ((a && b) && not (eqb (getD (set groups (spot g m) 1) (spot h n) 0) 0)) ≡ ((a && b) && not (eqb (getD groups (spot h n) 0) 0))
+          → ((a && b) && not (eqb (getD (set groups (indexOf g m) 1) (indexOf h n) 0) 0)) ≡ ((a && b) && not (eqb (getD groups (indexOf h n) 0) 0))
       go true true p q =
           let i = within-true h 8 p in
           let j = within-true n 32 q in
-          rw (getD-set-other groups (spot g m) (spot h n) 1 0 (λ e. d ((omega (arith, i, j, e)), (omega (arith, i, j, e)))))
+          rw (getD-set-other groups (indexOf g m) (indexOf h n) 1 0 (λ e. d ((omega (arith, i, j, e)), (omega (arith, i, j, e)))))
       go true false p q = refl
       go false b p q = refl
 
-  member-more : (h n : ℕ) → memberView (set groups (spot g m) 1) h n ≡ (memberView groups h n || (eqb h g && eqb n m))
+  member-more : (h n : ℕ) → memberView (set groups (indexOf g m) 1) h n ≡ (memberView groups h n || (eqb h g && eqb n m))
   member-more h n = go (eqb h g) (eqb n m) refl refl
     where
-      go : (a b : Bool) → eqb h g ≡ a → eqb n m ≡ b → memberView (set groups (spot g m) 1) h n ≡ (memberView groups h n || (a && b))
+      go : (a b : Bool) → eqb h g ≡ a → eqb n m ≡ b → memberView (set groups (indexOf g m) 1) h n ≡ (memberView groups h n || (a && b))
       go true true p q = rw (eqb-true h g p, eqb-true n m q) (member-here ∙ sym (or-true-right (memberView groups g m)))
       go true false p q = member-there h n (λ e. eqb-false n m q (e .1)) ∙ sym (or-false-right (memberView groups h n))
       go false b p q = member-there h n (λ e. eqb-false h g p (e .0)) ∙ sym (or-false-right (memberView groups h n))

@@ -13,7 +13,7 @@ use lib.ListN.{length, getD, length-set}
 use lib.Seq.{length-paste}
 use borrow.Author.Tests.{eq-eqb, ne-eqb, eqb-true, ltb-true, leb-true}
 use Rattle.model.specs.Lists.{upTo}
-use Rattle.model.specs.Questions.{ok, refused, _⇒_, inOrder, firstUnmet}
+use Rattle.model.specs.Questions.{ok, refused, _unless_, inOrder, firstUnmet}
 use Rattle.model.specs.CardNumbers.{luhn}
 use Rattle.model.specs.Grammar.{Rule, Line, card, group, rule}
 use Rattle.model.specs.Reader.{groupOf, numberAt, isCardLine, cardDigits, isGroupLine, isRuleLine, ruleRead, someIf, readLine}
@@ -39,26 +39,26 @@ asked b (group g m) = tt
 asked b (rule r) = tt
 
 module _ (w : List ℕ) (t t′ : Tables) (l : Line) (x : Bool) (is : readLine w ≡ someIf x l) where
-  opened : (i : ℕ) → openLine i (bookOf t) w ≡ inOrder ((2 ⇒ x) ∷ lineQuestions (bookOf t) l) i (ok (withLine (bookOf t) l))
+  opened : (i : ℕ) → openLine i (bookOf t) w ≡ inOrder ((2 unless x) ∷ lineQuestions (bookOf t) l) i (ok (withLine (bookOf t) l))
   unfolding openLine addLine
   opened i = rw (is, openLine) (go x)
     where
       go : (x : Bool) → elim (someIf x l) [ none ↦ refused 2 i | some l ↦ inOrder (lineQuestions (bookOf t) l) i (ok (withLine (bookOf t) l)) ]
-          ≡ inOrder ((2 ⇒ x) ∷ lineQuestions (bookOf t) l) i (ok (withLine (bookOf t) l))
+          ≡ inOrder ((2 unless x) ∷ lineQuestions (bookOf t) l) i (ok (withLine (bookOf t) l))
       go true = refl
       go false = refl
 
-  line-answer : (r : ℕ) → r ≡ firstUnmet ((2 ⇒ x) ∷ lineQuestions (bookOf t) l) → (r ≡ 0 → bookOf t′ ≡ withLine (bookOf t) l)
+  line-answer : (r : ℕ) → r ≡ firstUnmet ((2 unless x) ∷ lineQuestions (bookOf t) l) → (r ≡ 0 → bookOf t′ ≡ withLine (bookOf t) l)
       → (i : ℕ) → answered r i (bookOf t′) ≡ openLine i (bookOf t) w
   line-answer r e h i =
-      go (eqb r 0) refl ∙ sym (rw (sym e) at (first-refuses ((2 ⇒ x) ∷ lineQuestions (bookOf t) l) i (ok (withLine (bookOf t) l)) (asked (bookOf t) l))) ∙ sym (opened i)
+      go (eqb r 0) refl ∙ sym (rw (sym e) at (first-refuses ((2 unless x) ∷ lineQuestions (bookOf t) l) i (ok (withLine (bookOf t) l)) (asked (bookOf t) l))) ∙ sym (opened i)
     where
       go : (y : Bool) → eqb r 0 ≡ y → cond y (ok (bookOf t′)) (refused r i) ≡ cond y (ok (withLine (bookOf t) l)) (refused r i)
       go true p = ap ok (h (eqb-true r 0 p))
       go false p = refl
 
   -- what a taken line leaves is the book with it, and a refused one leaves what was there
-  line-taken : (r : ℕ) → r ≡ firstUnmet ((2 ⇒ x) ∷ lineQuestions (bookOf t) l) → Sized t
+  line-taken : (r : ℕ) → r ≡ firstUnmet ((2 unless x) ∷ lineQuestions (bookOf t) l) → Sized t
       → (r ≡ 0 → (bookOf t′ ≡ withLine (bookOf t) l) × Sized t′) → ((r ≡ 0 → ⊥) → t′ ≡ t) → Taken w t t′ r
   line-taken r e sized new old = record {
     answer = line-answer r e (λ z. new z .0);

@@ -9,7 +9,7 @@ use lib.ListN.{length, getD, set}
 use lib.Seq.{paste}
 use Rattle.model.specs.Limits.{cardLimit, ruleLimit, groupCount, mostDigits}
 use Rattle.model.specs.Lists.{within, upTo, any, eqList}
-use Rattle.model.specs.Questions.{Answer, ok, refused, Question, _⇒_, firstUnmet}
+use Rattle.model.specs.Questions.{Answer, ok, refused, Question, _unless_, firstUnmet}
 use Rattle.model.specs.Reader.{groupOf, numberAt, isCardLine, cardDigits, isGroupLine, isRuleLine}
 use Rattle.model.specs.Book.{Book}
 use Rattle.model.specs.Opening.{isCardNumber, openLine}
@@ -21,16 +21,16 @@ use Rattle.rulebook.specs.declared.Tables.{Tables}
 
 abbrev pub cardQuestions : List (List ℕ) → List ℕ → List Question
 cardQuestions cards w =
-    (2 ⇒ isCardLine w) ∷
-    (3 ⇒ ltb (length cards) cardLimit) ∷
-    (4 ⇒ isCardNumber (cardDigits w)) ∷
-    (5 ⇒ not (any (eqList (cardDigits w)) cards)) ∷ []
+    (2 unless isCardLine w) ∷
+    (3 unless ltb (length cards) cardLimit) ∷
+    (4 unless isCardNumber (cardDigits w)) ∷
+    (5 unless not (any (eqList (cardDigits w)) cards)) ∷ []
 
 abbrev pub groupQuestions : ℕ → List ℕ → List Question
-groupQuestions cards w = (2 ⇒ isGroupLine w) ∷ (6 ⇒ within (numberAt w 4) cards) ∷ []
+groupQuestions cards w = (2 unless isGroupLine w) ∷ (6 unless within (numberAt w 4) cards) ∷ []
 
 abbrev pub ruleQuestions : ℕ → ℕ → List ℕ → List Question
-ruleQuestions cards rules w = (2 ⇒ isRuleLine w) ∷ (6 ⇒ within (numberAt w 2) cards) ∷ (7 ⇒ ltb rules ruleLimit) ∷ []
+ruleQuestions cards rules w = (2 unless isRuleLine w) ∷ (6 unless within (numberAt w 2) cards) ∷ (7 unless ltb rules ruleLimit) ∷ []
 
 -- ---- what a line leaves in the tables
 

@@ -10,6 +10,7 @@ use lib.Dec.{ltb}
 use lib.ListN.{length, take, drop, length-append, length-take, length-drop}
 use lib.Seq.{take-all, take-at}
 use borrow.Author.Tests.{le-leb, lt-leb}
+use Rattle.model.specs.Limits.{lineLimit}
 use Rattle.model.specs.Questions.{done}
 use Rattle.model.specs.Calls.{Call, settle, after}
 use Rattle.answers.specs.View.{answerOf, replyOf}
@@ -25,8 +26,8 @@ use Rattle.commands.specs.Reader.{bytesOf, pairOf, readCommand}
 use Rattle.commands.specs.View.{wordAt, over, Filled, Printed}
 use Rattle.commands.specs.Parts.{Put}
 use Rattle.commands.specs.declared.Place.{Place}
-use Rattle.session.specs.Input.{lineLimit, commandIn}
-use Rattle.session.specs.Parts.{Kept, Performed, Answered, Ended}
+use Rattle.session.specs.Input.{commandIn}
+use Rattle.session.specs.Parts.{Kept, Performed, LineAnswered, Ended}
 
 -- ---- the bytes of a word
 
@@ -90,7 +91,7 @@ module _ (cards : ℕ) (digits groups : List ℕ) (rules : ℕ) (rows h : List �
   module _ (line reply : List ℕ) (n : ℕ) (reply′ : List ℕ) where
     pub answered : (call : Call) (r : Reply) (h′ : List ℕ) → length h ≡ 512 → length line ≤ lineLimit → readCommand line ≡ some call
         → Performed cards digits groups rules rows h call r h′ → Printed (printReply (replyOf r)) reply reply′ n
-        → Answered cards digits groups rules rows h line reply n h′ reply′
+        → LineAnswered cards digits groups rules rows h line reply n h′ reply′
     unfolding commandIn
     answered call r h′ long l e p q = record {
       said = λ lengths. rw (le-leb (length line) lineLimit l, e, ← p .answers lengths) q;
@@ -98,14 +99,14 @@ module _ (cards : ℕ) (digits groups : List ℕ) (rules : ℕ) (rows h : List �
       size = p .size;
     }
 
-    bad : commandIn line ≡ none → Printed printBad reply reply′ n → Answered cards digits groups rules rows h line reply n h reply′
+    bad : commandIn line ≡ none → Printed printBad reply reply′ n → LineAnswered cards digits groups rules rows h line reply n h reply′
     bad e q = record { said = λ lengths. rw e q; state = λ lengths. rw e; size = refl }
 
-    pub too-long : lineLimit < length line → Printed printBad reply reply′ n → Answered cards digits groups rules rows h line reply n h reply′
+    pub too-long : lineLimit < length line → Printed printBad reply reply′ n → LineAnswered cards digits groups rules rows h line reply n h reply′
     unfolding commandIn
     too-long l q = bad (rw (lt-leb (length line) lineLimit l)) q
 
-    pub ill-formed : length line ≤ lineLimit → readCommand line ≡ none → Printed printBad reply reply′ n → Answered cards digits groups rules rows h line reply n h reply′
+    pub ill-formed : length line ≤ lineLimit → readCommand line ≡ none → Printed printBad reply reply′ n → LineAnswered cards digits groups rules rows h line reply n h reply′
     unfolding commandIn
     ill-formed l e q = bad (rw (le-leb (length line) lineLimit l) e) q
 
@@ -133,7 +134,7 @@ pub printed-count : {text buffer out : List ℕ} {n : ℕ} → Printed text buff
 printed-count {text} {buffer} {out} {n} p l = omega (arith, length-take n out, printed-within p l)
 
 pub ended : (cards : ℕ) (digits groups : List ℕ) (rules : ℕ) (rows h line : List ℕ) (size : ℕ) (part line′ : List ℕ) (kept : ℕ) (reply : List ℕ) (n : ℕ) (h′ reply′ out : List ℕ) (at : ℕ) (out′ : List ℕ) (r : ℕ)
-    → Kept line size part line′ kept → Answered cards digits groups rules rows h (take kept line′) reply n h′ reply′ → length reply ≡ 32
+    → Kept line size part line′ kept → LineAnswered cards digits groups rules rows h (take kept line′) reply n h′ reply′ → length reply ≡ 32
     → Put (take n reply′) out at out′ r → Ended cards digits groups rules rows h (take size line) part out at h′ line′ out′ r
 ended cards digits groups rules rows h line size part line′ kept reply n h′ reply′ out at out′ r k a long p =
     let front = printed-front (a .said []) long in record {

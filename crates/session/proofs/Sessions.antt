@@ -6,7 +6,7 @@ use Prim.Native.Nat.{ℕ, suc, _/_, _<_, min}
 use native.Mathlib.Omega.{arith}
 use lib.ListN.{length, take, length-take, replicate}
 use lib.Seq.{take-nil}
-use Rattle.model.specs.Limits.{cardLimit, ruleLimit}
+use Rattle.model.specs.Limits.{cardLimit, ruleLimit, lineLimit}
 use Rattle.model.specs.Questions.{refused}
 use Rattle.answers.specs.declared.Answer.the-variants.{Done, Refused}
 use Rattle.rulebook.proofs.Books.{card-count, rule-count}
@@ -17,11 +17,11 @@ use Rattle.engine.proofs.CallLaws.{withHoldings}
 use Rattle.commands.specs.Grammar.{printBook, printReply}
 use Rattle.commands.specs.View.{Printed}
 use Rattle.commands.proofs.Buffers.{sets-over}
-use Rattle.session.specs.Input.{lineLimit, printed, answersTo}
+use Rattle.session.specs.Input.{printed, answersTo}
 use Rattle.session.specs.Blocks.{blockSays, endSays}
 use Rattle.session.specs.View.{progressOf}
 use Rattle.session.specs.Contracts.{Begins, Feeds}
-use Rattle.session.specs.Parts.{Answered, Walked}
+use Rattle.session.specs.Parts.{LineAnswered, Walked}
 use Rattle.session.specs.declared.Session.{Session}
 use Rattle.session.specs.declared.Fed.{Fed}
 use Rattle.session.proofs.Keeping.{take-least}
@@ -93,7 +93,7 @@ module _ (s : Session) (size : ℕ) (out : List ℕ) (l : length (s .line) ≡ s
       rw q (record { printed = rw (take-nil (length out)); counted = refl; fits = omega arith })
 
   pub ends-line : (size ≡ 0 → ⊥) → (n : ℕ) (h out′ : List ℕ)
-      → Answered (s .engine .cards) (s .engine .digits) (s .engine .groups) (s .engine .rules) (s .engine .rows) (s .engine .holdings) (take size (s .line)) out n h out′
+      → LineAnswered (s .engine .cards) (s .engine .digits) (s .engine .groups) (s .engine .rules) (s .engine .rows) (s .engine .holdings) (take size (s .line)) out n h out′
       → Printed (endSays (bookOf (s .engine)) (progressOf s)) out out′ n
   ends-line f n h out′ a =
       let some : 0 < length (take size (s .line)) = ends-some f in

@@ -3,7 +3,6 @@
 use mathlib.Core.Path.{_≡_, refl, sym, _∙_, ap, ap₂}
 use mathlib.Core.Bool.{true, false, true≢false}
 use mathlib.Core.List.{List, [], _++_, append-assoc, append-nil}
-use mathlib.Core.Option.{some}
 use Prim.Native.Nat.{ℕ}
 use native.Mathlib.Omega.{arith}
 use lib.Dec.{T}
@@ -14,8 +13,9 @@ use Rattle.model.specs.Questions as questions
 use Rattle.model.specs.Opening as model
 use Rattle.model.specs.Book.{Book}
 use Rattle.model.specs.Holdings.{State, noHoldings}
-use Rattle.model.proofs.Cuts.{plain, Pieces, end, more, pieces, cut-end, cut-more}
-use Rattle.session.specs.Input.{heading, isOpened, commandIn, printed, held, linesOf, answersTo, afterOpening, output}
+use Rattle.model.specs.Reader.{hasNoLF}
+use Rattle.model.proofs.Cuts.{Pieces, end, more, pieces, cut-end, cut-more}
+use Rattle.session.specs.Input.{heading, isOpened, commandIn, printed, afterLine, linesOf, answersTo, afterOpening, output}
 use Rattle.session.specs.Blocks.{Progress, start, blockSays, afterBlock, endSays}
 use Rattle.session.specs.View.{progressOf}
 use Rattle.session.specs.Theorems.{Conversation, begun, fed, EveryText}
@@ -38,18 +38,18 @@ module _ (b : Book) where
   abbrev from : State → Progress
   from s = record { state = s; line = [] }
 
-  by-line-says : (s : State) (w : List ℕ) → T (plain w) → blockSays b (from s) (w ++ ascii "\n") ≡ printed b s (commandIn w)
+  by-line-says : (s : State) (w : List ℕ) → T (hasNoLF w) → blockSays b (from s) (w ++ ascii "\n") ≡ printed b s (commandIn w)
   by-line-says s w h = line-says b s [] w (omega arith) h ∙ ap (printed b s) (kept-command w)
 
-  by-line-after : (s : State) (w : List ℕ) → T (plain w) → afterBlock b (from s) (w ++ ascii "\n") ≡ from (held b s (commandIn w))
-  by-line-after s w h = line-after b s [] w (omega arith) h ∙ ap (λ c. from (held b s c)) (kept-command w)
+  by-line-after : (s : State) (w : List ℕ) → T (hasNoLF w) → afterBlock b (from s) (w ++ ascii "\n") ≡ from (afterLine b s (commandIn w))
+  by-line-after s w h = line-after b s [] w (omega arith) h ∙ ap (λ c. from (afterLine b s c)) (kept-command w)
 
   by-lines : (s : State) {t : List ℕ} → Pieces t → whole (from s) t ≡ answersTo b s (linesOf t)
   unfolding linesOf answersTo
   by-lines s (end r h) = rw (part-says b s [] r (omega arith) h, part-after b s [] r (omega arith) h, cut-end r h) (kept-last b s r)
   by-lines s (more w t h rest) =
       whole-both (from s) (w ++ ascii "\n") t
-      ∙ rw (by-line-says s w h, by-line-after s w h, by-lines (held b s (commandIn w)) rest, cut-more w t h)
+      ∙ rw (by-line-says s w h, by-line-after s w h, by-lines (afterLine b s (commandIn w)) rest, cut-more w t h)
 
   whole-input : (t : List ℕ) → whole start t ≡ answersTo b noHoldings (linesOf t)
   whole-input t = by-lines noHoldings (pieces t)
@@ -87,7 +87,7 @@ module _ (text : List ℕ) where
       }
 
   after-opened : (input : List ℕ) → isOpened (model.opening text) ≡ true
-      → heading (model.opening text) ++ answersTo (model.bookOf text) noHoldings (linesOf input) ≡ output (some text) input
+      → heading (model.opening text) ++ answersTo (model.bookOf text) noHoldings (linesOf input) ≡ output text input
   unfolding model.bookOf
   after-opened input = go (model.opening text)
     where
@@ -95,7 +95,7 @@ module _ (text : List ℕ) where
       go (questions.ok b) e = refl
       go (questions.refused n i) e = absurd (true≢false (sym e))
 
-  after-refused : (input : List ℕ) → isOpened (model.opening text) ≡ false → heading (model.opening text) ≡ output (some text) input
+  after-refused : (input : List ℕ) → isOpened (model.opening text) ≡ false → heading (model.opening text) ≡ output text input
   after-refused input = go (model.opening text)
     where
       go : (a : questions.Answer Book) → isOpened a ≡ false → heading a ≡ afterOpening a input

@@ -8,26 +8,26 @@ use native.Mathlib.Omega.{arith}
 use lib.Dec.{T, eqb, eqb→eq}
 use lib.ListN.{length, getD, take, drop, length-take, length-drop, take-append-drop}
 use lib.Seq.{take-suc, take-all, take-add}
+use Rattle.model.specs.Limits.{lineLimit}
 use Rattle.model.specs.Lists.{until, ascii}
 use Rattle.model.proofs.Tests.{eq-T}
-use Rattle.model.proofs.Cuts.{plain}
+use Rattle.model.specs.Reader.{hasNoLF}
 use Rattle.accounts.specs.View.{stateFrom}
 use Rattle.rulebook.specs.View.{bookFrom}
 use Rattle.commands.specs.Parts.{Put}
 use Rattle.commands.proofs.Buffers.{put-then}
-use Rattle.session.specs.Input.{lineLimit}
 use Rattle.session.specs.Blocks.{blockSays, afterBlock}
 use Rattle.session.specs.Parts.{Kept, Ended, progressFrom, Walked}
 use Rattle.session.proofs.Lines.{says-both, after-both, part-says, part-after, line-says, line-after}
 
 -- ---- up to the first LF
 
-until-plain : (s : List ℕ) → T (plain (take (until (code "\n") s) s))
+until-plain : (s : List ℕ) → T (hasNoLF (take (until (code "\n") s) s))
 unfolding until
 until-plain [] = tt
 until-plain (x ∷ s) = go (eqb x (code "\n")) refl (until-plain s)
   where
-    go : (t : Bool) → eqb x (code "\n") ≡ t → T (plain (take (until (code "\n") s) s)) → T (plain (take (cond t 0 (suc (until (code "\n") s))) (x ∷ s)))
+    go : (t : Bool) → eqb x (code "\n") ≡ t → T (hasNoLF (take (until (code "\n") s) s)) → T (hasNoLF (take (cond t 0 (suc (until (code "\n") s))) (x ∷ s)))
     go true e h = tt
     go false e h = rw e h
 
@@ -46,7 +46,7 @@ module _ (block : List ℕ) (at end : ℕ) (ends : end ≡ at + until (code "\n"
   part-is : end - at ≡ until (code "\n") (drop at block)
   part-is = omega arith
 
-  part-plain : T (plain (take (end - at) (drop at block)))
+  part-plain : T (hasNoLF (take (end - at) (drop at block)))
   part-plain = rw part-is (until-plain (drop at block))
 
   -- the line and its LF
@@ -58,7 +58,7 @@ module _ (block : List ℕ) (at end : ℕ) (ends : end ≡ at + until (code "\n"
       rw (n, take-add at (suc u) block, take-suc (drop at block) u 0 m, until-there (drop at block) m, part-is)
 
   -- no LF is left
-  rest-plain : length block ≤ end → T (plain (drop at block))
+  rest-plain : length block ≤ end → T (hasNoLF (drop at block))
   rest-plain l = rw (take-all (end - at) (drop at block) (omega (arith, length-drop at block))) at part-plain
 
 -- ---- the walk

@@ -9,11 +9,7 @@ mod replies;
 use answers::Answer;
 use answers::Reply;
 use engine::Engine;
-ghost use Rattle.commands.specs.View.{Printed};
-ghost use Rattle.engine.specs.View.{bookOf};
-ghost use Rattle.session.specs.Blocks.{endSays};
-ghost use Rattle.session.specs.View.{progressOf};
-ghost use Rattle.session.specs.Contracts.{Begins, Feeds};
+ghost use Rattle.session.specs.Contracts.{Begins, Feeds, Finishes};
 
 // No answer is longer.
 const ANSWER_SIZE: usize = 32;
@@ -109,7 +105,7 @@ pub fn feed(session: Session, block: &[u8], out: &mut [u8]) -> Fed
 
 // The answer to a last line that lacks its LF, if there is one.
 pub fn finish(session: Session, out: &mut [u8; 32]) -> usize
-    ensures { λ r. ⌜ Printed (endSays (bookOf (session .engine)) (progressOf session)) (now (out .entry)) (now (out .exit)) r ⌝ }
+    ensures { λ r. ⌜ Finishes session (now (out .entry)) (now (out .exit)) r ⌝ }
 {
     let size = buffers::least(session.size, buffers::LINE_SIZE);
     if size == 0 {

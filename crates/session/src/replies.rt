@@ -9,7 +9,7 @@ ghost use lib.ListN.{length};
 ghost use Rattle.model.specs.Calls.{settle};
 ghost use Rattle.commands.specs.Reader.{bytesOf};
 ghost use Rattle.commands.specs.View.{wordAt, LiesIn};
-ghost use Rattle.session.specs.Parts.{Performed, Answered};
+ghost use Rattle.session.specs.Parts.{Performed, LineAnswered};
 
 const LINE_LIMIT: usize = 8192;
 
@@ -65,7 +65,7 @@ pub(crate) fn answer<'a>(
     reply: &mut [u8; 32],
 ) -> usize
     requires { ⌜ length (now holdings) ≡ 512 ⌝ }
-    ensures { λ r. ⌜ Answered cards (now (digits .entry)) (now (groups .entry)) rules (now (rows .entry)) (now (holdings .entry)) (now (line .entry)) (now (reply .entry)) r (now (holdings .exit)) (now (reply .exit)) ⌝ }
+    ensures { λ r. ⌜ LineAnswered cards (now (digits .entry)) (now (groups .entry)) rules (now (rows .entry)) (now (holdings .entry)) (now (line .entry)) (now (reply .entry)) r (now (holdings .exit)) (now (reply .exit)) ⌝ }
 {
     if LINE_LIMIT < line.len() {
         return commands::put_bad(reply);

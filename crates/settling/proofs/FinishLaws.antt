@@ -15,7 +15,7 @@ use Rattle.model.specs.Calls.{endsLimited}
 use Rattle.model.proofs.Tests.{eq-T, bool-ext, every-at, every-in}
 use Rattle.model.proofs.Places.{upTo-length, upTo-at, every-upTo, every-oneTo, in-oneTo}
 use Rattle.answers.specs.declared.Answer.the-variants.{Done, Refused}
-use Rattle.accounts.specs.View.{Ranged, spot, stateFrom}
+use Rattle.accounts.specs.View.{Ranged, indexOf, stateFrom}
 use Rattle.accounts.specs.Answered.{Declares}
 use Rattle.settling.specs.Moves.{Taken, Brought, Roomy, allLimited}
 use Rattle.settling.specs.Finish.{Judged, Finished}
@@ -28,9 +28,9 @@ use Rattle.settling.proofs.MoveLaws.{taken-covered}
 pub limited-at : (h : List ℕ) (n c k : ℕ) → T (allLimited h n) → Ranged c k → c ≤ n → stateFrom h .held c k ≤ sumLimit
 unfolding allLimited
 limited-at h n c k t r l =
-    let at : spot c k < n * kindCount = omega (arith, r .c-low, r .k-low, r .k-high) in
-    let p = every-at (λ x. leb x sumLimit) (upTo (λ i. getD h i 0) (n * kindCount)) 0 t (spot c k) (omega (arith, upTo-length (λ i. getD h i 0) (n * kindCount))) in
-    rw (held-at h c k r) (leb→le (getD h (spot c k) 0) sumLimit (rw (upTo-at (λ i. getD h i 0) (n * kindCount) (spot c k) 0 at) at p))
+    let at : indexOf c k < n * kindCount = omega (arith, r .c-low, r .k-low, r .k-high) in
+    let p = every-at (λ x. leb x sumLimit) (upTo (λ i. getD h i 0) (n * kindCount)) 0 t (indexOf c k) (omega (arith, upTo-length (λ i. getD h i 0) (n * kindCount))) in
+    rw (held-at h c k r) (leb→le (getD h (indexOf c k) 0) sumLimit (rw (upTo-at (λ i. getD h i 0) (n * kindCount) (indexOf c k) 0 at) at p))
 
 pub →limited : (h : List ℕ) (n : ℕ) → n ≤ cardLimit → ((c k : ℕ) → Ranged c k → c ≤ n → stateFrom h .held c k ≤ sumLimit) → T (allLimited h n)
 unfolding allLimited
@@ -41,7 +41,7 @@ unfolding allLimited
         let c = suc (i / kindCount) in
         let k = suc (i % kindCount) in
         let r : Ranged (suc (i / kindCount)) (suc (i % kindCount)) = record { c-low = omega arith; c-high = omega arith; k-low = omega arith; k-high = omega arith } in
-        let at : spot (suc (i / kindCount)) (suc (i % kindCount)) ≡ i = omega arith in
+        let at : indexOf (suc (i / kindCount)) (suc (i % kindCount)) ≡ i = omega arith in
         let m = f (suc (i / kindCount)) (suc (i % kindCount)) r (omega arith) in
         rw at at (rw (held-at h (suc (i / kindCount)) (suc (i % kindCount)) r) at m)
 

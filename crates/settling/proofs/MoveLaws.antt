@@ -15,7 +15,7 @@ use Rattle.model.specs.Holdings.{gives, receives, isCovered}
 use Rattle.model.proofs.Tests.{T-eq, eq-T, never-true, eqb-same}
 use Rattle.model.proofs.Places.{every-upTo}
 use Rattle.model.proofs.Sums.{covered→}
-use Rattle.accounts.specs.View.{spot, stateFrom}
+use Rattle.accounts.specs.View.{indexOf, stateFrom}
 use Rattle.settling.specs.Moves.{Proper, Takable, Taken, Brought, Roomy, allLimited}
 use Rattle.accounts.proofs.HoldingPlaces.{held-at, store-cases}
 use Rattle.model.proofs.Loops.{every-last}
@@ -34,7 +34,7 @@ taken-none h e n v = record { some = omega arith; long = v .long; less = λ c k.
 
 module _ (h₀ e h : List ℕ) (i n : ℕ) (p : Proper e n) (d : TakenTo h₀ e h i n) (l : i < n) where
   abbrev giftPlace : ℕ
-  giftPlace = spot (transferAt e i .giver) (transferAt e i .kind)
+  giftPlace = indexOf (transferAt e i .giver) (transferAt e i .kind)
 
   -- of what is covered, there is one more to take
   covered-there : T (isCovered (stateFrom h₀) (exchangeOf e)) → 1 ≤ getD h giftPlace 0
@@ -91,7 +91,7 @@ brought-none h e n r = record { some = omega arith; long = r .long; more = λ c 
 
 module _ (h₀ e h : List ℕ) (i n : ℕ) (r : Roomy h₀ e n) (d : BroughtTo h₀ e h i n) (l : i < n) where
   abbrev receiptPlace : ℕ
-  receiptPlace = spot (transferAt e i .receiver) (transferAt e i .kind)
+  receiptPlace = indexOf (transferAt e i .receiver) (transferAt e i .kind)
 
   -- there is room for one more
   pub one-fits : getD h receiptPlace 0 ≤ sumLimit + 32

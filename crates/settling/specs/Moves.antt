@@ -6,7 +6,7 @@ use mathlib.Core.List.{List}
 use Prim.Native.Nat.{ℕ, _+_, _*_, _≤_, _<_}
 use lib.Dec.{leb}
 use lib.ListN.{length, getD}
-use Rattle.model.specs.Limits.{kindCount, sumLimit, transferSize}
+use Rattle.model.specs.Limits.{kindCount, sumLimit, transferSize, holdingCount}
 use Rattle.model.specs.Lists.{every, upTo}
 use Rattle.model.specs.Transfers.{transferAt, exchangeOf}
 use Rattle.model.specs.Holdings.{gives, receives, isCovered}
@@ -22,11 +22,11 @@ pub record Proper (e : List ℕ) (n : ℕ) : Type 0 where
 -- all that `take` needs: whether the gifts are held is for it to find out
 pub record Takable (h e : List ℕ) (n : ℕ) : Type 0 where
   pub proper : Proper e n
-  pub long : length h ≡ 512
+  pub long : length h ≡ holdingCount
 
 -- the holdings h′ are h less what e gives
 pub record Taken (h e h′ : List ℕ) : Type 0 where
-  pub long : length h′ ≡ 512
+  pub long : length h′ ≡ holdingCount
   pub less : (c k : ℕ) → stateFrom h′ .held c k + gives c k (exchangeOf e) ≡ stateFrom h .held c k
 
 -- all gifts are taken, or the exchange is not covered
@@ -36,7 +36,7 @@ Took false h e h′ = isCovered (stateFrom h) (exchangeOf e) ≡ false
 
 -- the holdings h′ are h and what e brings
 pub record Brought (h e h′ : List ℕ) : Type 0 where
-  pub long : length h′ ≡ 512
+  pub long : length h′ ≡ holdingCount
   pub more : (c k : ℕ) → stateFrom h′ .held c k ≡ stateFrom h .held c k + receives c k (exchangeOf e)
 
 -- each holding of the first n cards is at most the limit
@@ -46,5 +46,5 @@ allLimited h n = every (λ x. leb x sumLimit) (upTo (λ i. getD h i 0) (n * kind
 -- every receiver has room for what it receives
 pub record Roomy (h e : List ℕ) (n : ℕ) : Type 0 where
   pub proper : Proper e n
-  pub long : length h ≡ 512
+  pub long : length h ≡ holdingCount
   pub room : (i : ℕ) → i < n → stateFrom h .held (transferAt e i .receiver) (transferAt e i .kind) ≤ sumLimit

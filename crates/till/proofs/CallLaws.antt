@@ -7,6 +7,7 @@ use native.Mathlib.Omega.{arith}
 use borrow.Author.Tests.{eq-eqb, ne-eqb}
 use lib.ListN.{length}
 use lib.Seq.{ext-getD}
+use Rattle.model.specs.Limits.{holdingCount}
 use Rattle.model.specs.Lists.{upTo}
 use Rattle.model.specs.Questions.{ok, refused, done}
 use Rattle.model.specs.Book.{Book}
@@ -19,7 +20,7 @@ use Rattle.rulebook.proofs.Books.{card-count}
 use Rattle.rulebook.specs.declared.Tables.{Tables}
 use Rattle.accounts.specs.View.{stateFrom}
 use Rattle.settling.specs.Settles.{Settles}
-use Rattle.till.specs.Call.{holdingCount, sumsLimited, replyOver, tillReply, numbersOf}
+use Rattle.till.specs.Call.{sumsLimited, replyOver, tillReply, numbersOf}
 use Rattle.till.specs.Tills.{Tills}
 use Rattle.till.specs.Parts.{UndeclaredZero, SettlesOver}
 use Rattle.till.proofs.HoldingLaws.{cardAt, kindAt, held-place}

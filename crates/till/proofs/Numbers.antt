@@ -8,7 +8,7 @@ use lib.Dec.{T, eqb, leb}
 use lib.ListN.{length, replicate}
 use Rattle.model.specs.Limits.{textLimit, transferSize, exchangeLimit, recordSize, proofLimit}
 use Rattle.model.specs.Lists.{within, every, firstFailing}
-use Rattle.model.specs.Questions.{Answer, ok, refused, done, Question, _⇒_, inOrder, andThen}
+use Rattle.model.specs.Questions.{Answer, ok, refused, done, Question, _unless_, inOrder, andThen}
 use Rattle.model.specs.Grammar.{Line, card, group, rule}
 use Rattle.model.specs.Reader.{readLine, cut}
 use Rattle.model.specs.Book.{Book, noBook}
@@ -102,4 +102,4 @@ settle-numbered b s x p =
     (one ofCall (isSized transferSize exchangeLimit x) 12 0 _ tt
     (one ofCall (every (isProper b) (exchangeOf x)) 13 (firstFailing (isProper b) 1 (exchangeOf x)) _ tt
     (one ofCall (isSized recordSize proofLimit p) 14 0 _ tt (judge-numbered b (exchangeOf x) p))))
-    (λ t. in-order ofCall ((22 ⇒ isCovered s (exchangeOf x)) ∷ (23 ⇒ endsLimited b s (exchangeOf x)) ∷ []) 0 (ok done) tt (answered ofCall done))
+    (λ t. in-order ofCall ((22 unless isCovered s (exchangeOf x)) ∷ (23 unless endsLimited b s (exchangeOf x)) ∷ []) 0 (ok done) tt (answered ofCall done))

@@ -10,12 +10,12 @@ use lib.ListN.{length}
 use Rattle.model.specs.Limits.{cardLimit, kindCount, sumLimit}
 use Rattle.model.specs.Lists.{every, oneTo}
 use Rattle.model.specs.Questions as model
-use Rattle.model.specs.Questions.{_⇒_}
+use Rattle.model.specs.Questions.{_unless_}
 use Rattle.model.specs.Book.{Book, declared}
 use Rattle.model.specs.Transfers.{Exchange, exchangeOf}
 use Rattle.model.specs.Fairness.{isProper}
 use Rattle.model.specs.Holdings.{State, noHoldings, receives, total}
-use Rattle.model.specs.Calls.{Call, issue, redeem, query, settle, accountQuestions, issues, brings, replyTo, after}
+use Rattle.model.specs.Calls.{Call, issue, redeem, query, settle, accountQuestions, issues, receivedIn, replyTo, after}
 use Rattle.model.proofs.Tests.{T-eq, eq-T, both}
 use Rattle.model.proofs.Places.{every-oneTo}
 use Rattle.model.proofs.Questions.{inOrder-ok}
@@ -46,10 +46,10 @@ module _ (b : Book) where
       let rest = none-received X (p .1) d k f in
       rw e (omega arith)
 
-  none-brought : (s : State) (call : Call) (t : model.Told) → replyTo b s call ≡ model.ok t → (d j : ℕ) → declared b d ≡ false → issues call d j + brings call d j ≡ 0
+  none-brought : (s : State) (call : Call) (t : model.Told) → replyTo b s call ≡ model.ok t → (d j : ℕ) → declared b d ≡ false → issues call d j + receivedIn call d j ≡ 0
   unfolding replyTo
   none-brought s (issue c k n) t h d j f =
-      let q = inOrder-ok (accountQuestions b c k ++ ((10 ⇒ leb (total s k + n) sumLimit) ∷ [])) 0 (model.ok model.done) t h in
+      let q = inOrder-ok (accountQuestions b c k ++ ((10 unless leb (total s k + n) sumLimit) ∷ [])) 0 (model.ok model.done) t h in
       rw (apart c d (q .0 .0) f) (omega arith)
   none-brought s (redeem c k n) t h d j f = omega arith
   none-brought s (query c k) t h d j f = omega arith

@@ -7,7 +7,7 @@ use native.Mathlib.Omega.{arith}
 use borrow.Author.Tests.{eq-eqb}
 use lib.Dec.{T, leb, leb→le}
 use lib.ListN.{length}
-use Rattle.model.specs.Limits.{cardLimit, kindCount, sumLimit}
+use Rattle.model.specs.Limits.{cardLimit, kindCount, sumLimit, holdingCount}
 use Rattle.model.specs.Lists.{within, oneTo}
 use Rattle.model.specs.Questions as model
 use Rattle.model.specs.Book.{Book}
@@ -32,7 +32,7 @@ use Rattle.engine.specs.Demand3.{Run, opened, called}
 use Rattle.engine.specs.declared.Engine.{Engine}
 use Rattle.answers.specs.declared.Reply.{Reply}
 use Rattle.answers.specs.declared.Reply.the-variants.{Done, Holding, Refused}
-use Rattle.till.specs.Call.{holdingCount, exactCount, undeclaredZero, sumsLimited, holdingQuestions, replyOver, tillReply, numberOf}
+use Rattle.till.specs.Call.{exactCount, undeclaredZero, sumsLimited, holdingQuestions, replyOver, tillReply, numberOf}
 use Rattle.till.specs.Tills.{Tills}
 use Rattle.till.specs.Theorems.{ZeroIsDone, Never23, Agrees, TillAgrees}
 use Rattle.till.proofs.CallLaws.{numbers-are}
