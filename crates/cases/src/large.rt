@@ -1,6 +1,7 @@
 // 32 transfers with 32 records, and one transfer or record more or less.
 use crate::tell;
 use engine::Engine;
+ghost use Prim.Native.Nat.{_≤_};
 
 // Two cards, and a rule that asks nothing; card 1 holds so many tokens.
 fn open(count: u32) -> Engine {
@@ -9,58 +10,45 @@ fn open(count: u32) -> Engine {
     called.engine
 }
 
-// 1 A 2, as often as there is room
-fn put_transfers(x: &mut [u8]) {
-    for i in 0..x.len() / 3 {
+// 33 times 1 A 2
+fn exchange() -> [u8; 99] {
+    let mut x = [0; 99];
+    for i in 0..33 {
         x[i * 3] = 1;
         x[i * 3 + 1] = 1;
         x[i * 3 + 2] = 2;
     }
+    x
 }
 
 // Record i claims transfer i by rule 1 with a = 2; the last of 32 ends the chain.
-fn put_records(p: &mut [u8]) {
-    for i in 0..p.len() / 12 {
+fn proof() -> [u8; 384] {
+    let mut p = [0; 384];
+    for i in 0..32 {
         p[i * 12] = ((i + 2) % 33) as u8;
-        p[i * 12 + 1] = ((i + 1) % 256) as u8;
+        p[i * 12 + 1] = (i + 1) as u8;
         p[i * 12 + 2] = 1;
         p[i * 12 + 4] = 2;
     }
+    p
 }
 
-pub fn settles() {
-    let mut x = [0; 96];
-    let mut p = [0; 384];
-    put_transfers(&mut x);
-    put_records(&mut p);
-    let e = tell::settle(b"96 bytes, 32 records", open(32), &x, &p);
-    tell::holding(b"card 1's kind A", e, 1, 1);
-    tell::holding(b"card 2's kind A", e, 2, 1);
+// The first transfers with the first records, while card 1 holds so many tokens.
+fn settle(label: &[u8], held: u32, transfers: usize, records: usize) -> Engine
+    requires { ⌜ (transfers ≤ 33) × (records ≤ 32) ⌝ }
+{
+    let x = exchange();
+    let p = proof();
+    let bytes = transfers * 3;
+    let size = records * 12;
+    tell::settle(label, open(held), &x[..bytes], &p[..size])
 }
 
-pub fn not_covered() {
-    let mut x = [0; 96];
-    let mut p = [0; 384];
-    put_transfers(&mut x);
-    put_records(&mut p);
-    tell::settle(b"96 bytes while 31 are held", open(31), &x, &p);
-}
-
-pub fn refused() {
-    let mut long = [0; 99];
-    let mut short = [0; 93];
-    let mut p = [0; 384];
-    put_transfers(&mut long);
-    put_transfers(&mut short);
-    put_records(&mut p);
-    tell::settle(b"99 bytes", open(33), &long, &p);
-    tell::settle(b"93 bytes, 32 records", open(32), &short, &p);
-}
-
-pub fn one_record_less() {
-    let mut x = [0; 96];
-    let mut p = [0; 372];
-    put_transfers(&mut x);
-    put_records(&mut p);
-    tell::settle(b"96 bytes, 31 records", open(32), &x, &p);
+pub fn settlements() {
+    let e = settle(b"96 bytes, 32 records", 32, 32, 32);
+    tell::calls(e, b"card 1's kind A:H 1 1;card 2's kind A:H 2 1;");
+    settle(b"96 bytes while 31 are held", 31, 32, 32);
+    settle(b"99 bytes", 33, 33, 32);
+    settle(b"93 bytes, 32 records", 32, 31, 32);
+    settle(b"96 bytes, 31 records", 32, 32, 31);
 }

@@ -1,22 +1,12 @@
-// Runs the cases of document 01 that are not marked P, and some that are, and prints what each answers; the file stdout beside src/ is what it must print.
-mod accounts;
-mod fairness;
-mod family;
+// Runs the calls of document 01's cases that are not marked P, and of some that are, and prints what each answers; the file stdout beside src/ is what it must print.
+mod issuing;
 mod large;
-mod opening;
 mod ring;
 mod tell;
-mod texts;
 
 fn main() {
-    opening::forms();
-    opening::numbers();
-    opening::rules();
-    opening::bytes();
-    opening::cards();
-    opening::limits();
-    accounts::questions();
-    accounts::sums();
+    issuing::questions();
+    issuing::sums();
     ring::settles();
     ring::sizes();
     ring::transfers();
@@ -25,9 +15,5 @@ fn main() {
     ring::links();
     ring::swaps();
     ring::other_order();
-    large::settles();
-    large::not_covered();
-    large::refused();
-    large::one_record_less();
-    family::agrees();
+    large::settlements();
 }

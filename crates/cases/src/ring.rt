@@ -9,44 +9,9 @@ fn exchange() -> [u8; 9] {
 }
 
 fn proof() -> [u8; 36] {
-    [
-        2,
-        1,
-        1,
-        0,
-        2,
-        3,
-        0,
-        0,
-        0,
-        0,
-        0,
-        0,
-        3,
-        2,
-        2,
-        0,
-        3,
-        1,
-        0,
-        0,
-        0,
-        0,
-        0,
-        0,
-        0,
-        3,
-        3,
-        0,
-        1,
-        2,
-        0,
-        0,
-        0,
-        0,
-        0,
-        0,
-    ]
+    *b"\x02\x01\x01\0\x02\x03\0\0\0\0\0\0\
+       \x03\x02\x02\0\x03\x01\0\0\0\0\0\0\
+       \0\x03\x03\0\x01\x02\0\0\0\0\0\0"
 }
 
 // An engine whose cards hold what the ring asks of them.
@@ -66,22 +31,30 @@ fn settle(label: &[u8], engine: Engine) -> Engine {
 
 pub fn settles() {
     let e = settle(b"the ring", holding_engine());
-    tell::holding(b"card 1's kind C", e, 1, 3);
-    tell::holding(b"card 1's kind A", e, 1, 1);
-    tell::holding(b"card 2's kind A", e, 2, 1);
-    tell::holding(b"card 3's kind C", e, 3, 3);
+    tell::calls(
+        e,
+        b"card 1's kind C:H 1 3;\
+          card 1's kind A:H 1 1;\
+          card 2's kind A:H 2 1;\
+          card 3's kind C:H 3 3;",
+    );
     settle(b"the ring again", e);
-    tell::holding(b"card 1's kind A still", e, 1, 1);
+    tell::calls(e, b"card 1's kind A still:H 1 1;");
+}
+
+// A settlement while the cards hold what the ring asks of them.
+fn ask(label: &[u8], exchange: &[u8], proof: &[u8]) {
+    tell::settle(label, holding_engine(), exchange, proof);
 }
 
 fn with_exchange(label: &[u8], exchange: &[u8]) {
     let p = proof();
-    tell::settle(label, holding_engine(), exchange, &p);
+    ask(label, exchange, &p);
 }
 
 fn with_proof(label: &[u8], proof: &[u8]) {
     let x = exchange();
-    tell::settle(label, holding_engine(), &x, proof);
+    ask(label, &x, proof);
 }
 
 pub fn sizes() {
@@ -101,19 +74,17 @@ fn in_exchange(label: &[u8], at: usize, byte: u8)
     requires { ⌜ at < 9 ⌝ }
 {
     let mut x = exchange();
-    let p = proof();
     x[at] = byte;
-    tell::settle(label, holding_engine(), &x, &p);
+    with_exchange(label, &x);
 }
 
 // One byte of the proof changed.
 fn in_proof(label: &[u8], at: usize, byte: u8)
     requires { ⌜ at < 36 ⌝ }
 {
-    let x = exchange();
     let mut p = proof();
     p[at] = byte;
-    tell::settle(label, holding_engine(), &x, &p);
+    with_proof(label, &p);
 }
 
 pub fn transfers() {
@@ -152,122 +123,26 @@ pub fn links() {
 }
 
 pub fn swaps() {
-    let e = holding_engine();
-    let nine = [0, 1, 4, 0, 1, 0, 0, 0, 0, 0, 0, 0];
-    tell::settle(b"P9", e, &[2, 2, 1], &nine);
-    let ten = [0, 1, 1, 0, 2, 1, 0, 0, 0, 0, 0, 0];
-    tell::settle(b"P10", e, &[1, 1, 2], &ten);
-    let six = [
-        2,
-        1,
-        5,
-        0,
-        2,
-        1,
-        0,
-        0,
-        0,
-        0,
-        0,
-        0,
-        3,
-        2,
-        6,
-        0,
-        3,
-        2,
-        0,
-        0,
-        0,
-        0,
-        0,
-        0,
-        0,
-        3,
-        4,
-        0,
-        3,
-        0,
-        0,
-        0,
-        0,
-        0,
-        0,
-        0,
-    ];
-    tell::settle(b"P6", e, &[3, 4, 2, 1, 2, 3, 2, 2, 3], &six);
+    ask(b"P9", &[2, 2, 1], b"\0\x01\x04\0\x01\0\0\0\0\0\0\0");
+    ask(b"P10", &[1, 1, 2], b"\0\x01\x01\0\x02\x01\0\0\0\0\0\0");
+    ask(
+        b"P6",
+        &[3, 4, 2, 1, 2, 3, 2, 2, 3],
+        b"\x02\x01\x05\0\x02\x01\0\0\0\0\0\0\
+          \x03\x02\x06\0\x03\x02\0\0\0\0\0\0\
+          \0\x03\x04\0\x03\0\0\0\0\0\0\0",
+    );
     settle(b"ring not covered", tell::open());
 }
 
 // The ring's records at 1, 5 and 3, with records between them that nobody may read.
 pub fn other_order() {
-    let x = exchange();
-    let p = [
-        5,
-        3,
-        3,
-        0,
-        1,
-        2,
-        0,
-        0,
-        0,
-        0,
-        0,
-        0,
-        255,
-        255,
-        255,
-        255,
-        255,
-        255,
-        255,
-        255,
-        255,
-        255,
-        255,
-        255,
-        0,
-        2,
-        2,
-        0,
-        3,
-        1,
-        0,
-        0,
-        0,
-        0,
-        0,
-        0,
-        255,
-        255,
-        255,
-        255,
-        255,
-        255,
-        255,
-        255,
-        255,
-        255,
-        255,
-        255,
-        3,
-        1,
-        1,
-        0,
-        2,
-        3,
-        0,
-        0,
-        0,
-        0,
-        0,
-        0,
-    ];
-    tell::settle(
+    with_proof(
         b"another order with records off the chain",
-        holding_engine(),
-        &x,
-        &p,
+        b"\x05\x03\x03\0\x01\x02\0\0\0\0\0\0\
+          \xff\xff\xff\xff\xff\xff\xff\xff\xff\xff\xff\xff\
+          \0\x02\x02\0\x03\x01\0\0\0\0\0\0\
+          \xff\xff\xff\xff\xff\xff\xff\xff\xff\xff\xff\xff\
+          \x03\x01\x01\0\x02\x03\0\0\0\0\0\0",
     );
 }

@@ -1,55 +1,24 @@
-// What a call answers, printed.
+// What calls answer, printed behind their labels as ringswap prints it.
 use answers::Reply;
+use commands::Command;
 use engine::Engine;
 
 // 01's book.
 pub fn open() -> Engine {
     let opened = engine::open(
-        b"C 700056000016\nC 700012000019\nC 700012000027\nG 1 2\nR 1 A a < b C *\nR 2 B a < b A *\nR 3 C a < b B *\nR 2 B a < a D * = a *\nR 3 D a < b B *\nR 1 B a < a D b ? 1 b\nR 1 A a < b D *\nR 2 D a < a A *\n",
+        b"C 700056000016\nC 700012000019\nC 700012000027\nG 1 2\n\
+          R 1 A a < b C *\nR 2 B a < b A *\nR 3 C a < b B *\nR 2 B a < a D * = a *\n\
+          R 3 D a < b B *\nR 1 B a < a D b ? 1 b\nR 1 A a < b D *\nR 2 D a < a A *\n",
     );
     opened.engine
 }
 
-// The label, and 0 0, or = and the holding, or number and place.
-pub fn tell(label: &[u8], reply: Reply) {
+fn tell(label: &[u8], reply: Reply) {
     io::write_all(1, label);
     io::write_all(1, b": ");
-    match reply {
-        Reply::Done => {
-            io::write_all(1, b"0 0");
-        }
-        Reply::Holding(count) => {
-            io::write_all(1, b"= ");
-            io::print_decimal(1, count as u64);
-        }
-        Reply::Refused(number, place) => {
-            io::print_decimal(1, number as u64);
-            io::write_all(1, b" ");
-            io::print_decimal(1, place as u64);
-        }
-    }
-    io::write_all(1, b"\n");
-}
-
-// The answer of an issue, and the engine after it.
-pub fn issue(label: &[u8], engine: Engine, card: u32, kind: u32, count: u32) -> Engine {
-    let called = engine::issue(engine, card, kind, count);
-    let reply = called.reply;
-    tell(label, reply);
-    called.engine
-}
-
-pub fn redeem(label: &[u8], engine: Engine, card: u32, kind: u32, count: u32) -> Engine {
-    let called = engine::redeem(engine, card, kind, count);
-    let reply = called.reply;
-    tell(label, reply);
-    called.engine
-}
-
-pub fn holding(label: &[u8], engine: Engine, card: u32, kind: u32) {
-    let called = engine::holding(engine, card, kind);
-    let reply = called.reply;
-    tell(label, reply);
+    let mut out = [0; 32];
+    let count = commands::put_reply(reply, &mut out);
+    io::write_all(1, &out[..count]);
 }
 
 pub fn settle(label: &[u8], engine: Engine, exchange: &[u8], proof: &[u8]) -> Engine {
@@ -57,4 +26,34 @@ pub fn settle(label: &[u8], engine: Engine, exchange: &[u8], proof: &[u8]) -> En
     let reply = called.reply;
     tell(label, reply);
     called.engine
+}
+
+// The call of a command line of ringswap's; a settlement's is none here.
+fn call(label: &[u8], engine: Engine, line: &[u8]) -> Engine {
+    let called = match commands::read(line) {
+        Command::Issue(card, kind, count) => engine::issue(engine, card, kind, count),
+        Command::Redeem(card, kind, count) => engine::redeem(engine, card, kind, count),
+        Command::Query(card, kind) => engine::holding(engine, card, kind),
+        _ => return engine,
+    };
+    let reply = called.reply;
+    tell(label, reply);
+    called.engine
+}
+
+// The calls of a table, one behind the other: a row is a label, `:`, a command line and `;`.
+pub fn calls(engine: Engine, table: &[u8]) -> Engine {
+    let mut next = engine;
+    let mut at = 0;
+    while at < table.len() {
+        let colon = ascii::find(table, at, b':');
+        let line = colon + 1;
+        let end = ascii::find(table, line, b';');
+        if table.len() <= end {
+            return next;
+        }
+        next = call(&table[at..colon], next, &table[line..end]);
+        at = end + 1;
+    }
+    next
 }
