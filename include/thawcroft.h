@@ -2,6 +2,17 @@
  * The till host's call: a proposed exchange judged by a rule text and settled over lent holdings.
  *
  * Link with libtill.a (make lib), which needs nothing but the C library. The archive is for x86-64 Linux.
+ *
+ * Rule text: ASCII lines, each ended by LF, words one space apart. Cards and rules are numbered from 1 as they stand.
+ *   C digits      a card: 12 to 19 digits, the last of them the Luhn check digit
+ *   G g m         card m is in group g, 1 to 8
+ *   R m K v       card m gives one token of kind K, A to P, to v, a variable a to h; then up to four prices and up to four conditions:
+ *     < w K y       the variable w gives y, another variable or * for card m, one token of kind K
+ *     ? g z         z, a variable or *, is in group g
+ *     = y z         the cards y and z, variables or *, have the same first six digits
+ * Exchange: 1 to 32 transfers of three bytes, giver, kind (A is 1, P is 16) and receiver.
+ * Proof: records of twelve bytes, numbered from 1: the next record, the transfer claimed (from 1), the rule used, 0, and the cards for a to h
+ *   (0 where the rule does not use the variable). The chain starts at record 1, claims each transfer once, and ends with a next of 0.
  */
 #ifndef THAWCROFT_H
 #define THAWCROFT_H
@@ -12,6 +23,9 @@
 #ifdef __cplusplus
 extern "C" {
 #endif
+
+/* Raised when an answer's meaning changes. */
+#define THAWCROFT_VERSION 1
 
 /* 32 cards by 16 kinds. Card m's holding of kind k (A is 1, P is 16) stands at (m - 1) * 16 + k - 1. */
 #define THAWCROFT_HOLDING_COUNT 512
@@ -53,9 +67,10 @@ enum thawcroft_answer {
  * On 0 the holdings are rewritten, all 512; on any other answer each of the lent numbers is as it was. No state is kept between
  * calls, nothing is allocated (the call takes 11 KB of stack), and two threads may call it at once with holdings of their own.
  *
- * Each slice is a pointer and a length: bytes for text, exchange and proof, numbers for the holdings. The pointer of an empty
- * slice is not read. The caller sees to it that each pointer has so many elements behind it, that the holdings overlap none of
- * the other slices, and that nobody changes a slice during the call.
+ * Each slice is a pointer and a length: bytes for text, exchange and proof, without a NUL at the end; for the holdings numbers, 512 and not
+ * their size in bytes. The pointer of an empty slice may be NULL. The caller sees to it that each pointer has so many elements behind it, that the
+ * holdings are aligned as uint32_t are (they are in the machine's byte order) and overlap none of the other slices, and that during the call
+ * nobody else reads or writes the holdings or writes the others, which may overlap each other.
  */
 uint32_t thawcroft_settle(const uint8_t *text, size_t text_length,
                           uint32_t *holdings, size_t holding_count,
