@@ -1,4 +1,4 @@
--- Questions 8 and 9 as one number, for the calls that ask both.
+-- Questions 8 and 9 as one number, for the calls that ask both. A private contract: nothing here has to be believed.
 use mathlib.Core.Bool.{cond}
 use Prim.Native.Nat.{ℕ, min}
 use Rattle.model.specs.Limits.{cardLimit}

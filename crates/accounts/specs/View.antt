@@ -14,7 +14,7 @@ indexOf c k = (c - 1) * kindCount + (k - 1)
 unfoldable pub stateFrom : List ℕ → State
 stateFrom holdings = record { held = λ c k. cond (within c cardLimit && within k kindCount) (getD holdings (indexOf c k) 0) 0 }
 
--- one of 32 cards and one of 16 kinds
+-- one of 32 cards and one of 16 kinds; private contracts ask it
 pub record Ranged (c k : ℕ) : Type 0 where
   pub c-low : 1 ≤ c
   pub c-high : c ≤ cardLimit

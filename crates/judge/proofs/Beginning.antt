@@ -12,7 +12,7 @@ use Rattle.model.specs.Questions.{Reply, refused}
 use Rattle.model.specs.Book.{Book}
 use Rattle.model.specs.Transfers.{exchangeOf}
 use Rattle.model.specs.Fairness.{isProper}
-use Rattle.model.specs.Proof.{judge}
+use Rattle.model.specs.Proof.{judgeChain}
 use Rattle.model.specs.Calls.{isSized, judging}
 use Rattle.model.proofs.Tests.{both-true}
 use Rattle.rulebook.specs.View.{bookFrom}
@@ -54,7 +54,7 @@ module _ (t : Parts) (e p lengths : List ℕ) where
   chosen =
       cond (isSized 3 96 e)
       (cond (eqb (bad (t .cards) e) 0)
-      (cond (isSized 12 3060 p) (judge (bookWith (cut t) lengths) (exchangeOf e) p) (refused 14 0))
+      (cond (isSized 12 3060 p) (judgeChain (bookWith (cut t) lengths) (exchangeOf e) p) (refused 14 0))
       (refused 13 (bad (t .cards) e)))
       (refused 12 0)
 
@@ -68,7 +68,7 @@ module _ (t : Parts) (e p lengths : List ℕ) where
   unfolding judging
   cut-judging s =
       cond (isSized 3 96 e)
-      (cond (proper s) (cond (isSized 12 3060 p) (judge (bookWith (cut t) lengths) (exchangeOf e) p) (refused 14 0)) (refused 13 (place s)))
+      (cond (proper s) (cond (isSized 12 3060 p) (judgeChain (bookWith (cut t) lengths) (exchangeOf e) p) (refused 14 0)) (refused 13 (place s)))
       (refused 12 0)
 
   pub judging≡ : judging (bookWith t lengths) e p ≡ chosen

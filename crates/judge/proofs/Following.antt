@@ -14,7 +14,7 @@ use Rattle.model.specs.Questions.{Answer, ok, refused, done, Reply, _unless_, i
 use Rattle.model.specs.Grammar.{Rule}
 use Rattle.model.specs.Transfers.{Exchange, contained, transferAt, exchangeOf}
 use Rattle.model.specs.Fairness.{pricesOf}
-use Rattle.model.specs.Proof.{recordAt, next, claim, ruleNumber, cards, asked, marked, recordQuestions, chain, judge}
+use Rattle.model.specs.Proof.{recordAt, next, claim, ruleNumber, cards, asked, marked, recordQuestions, chain, judgeChain}
 use Rattle.model.proofs.Tests.{both-true, within-true}
 use Rattle.model.proofs.Places.{upTo-length}
 use Rattle.model.proofs.Soundness.{unclaimed, unclaimed-set, unclaimed-first}
@@ -85,7 +85,7 @@ module _ (t : Parts) (e p : List ℕ) where
     pub size : length marks ≡ 32
     pub unclaimed≡ : unclaimed (take n marks) ≡ left
     pub here : 0 < left → (1 ≤ i) × (i * 12 ≤ length p)
-    pub same : (lengths : List ℕ) → answerFrom lengths left marks prices i ≡ judge (bookWith t lengths) (exchangeOf e) p
+    pub same : (lengths : List ℕ) → answerFrom lengths left marks prices i ≡ judgeChain (bookWith t lengths) (exchangeOf e) p
 
   first-marks : (k m : ℕ) → k ≤ m → take k (replicate m false) ≡ replicate k false
   first-marks zero m h = refl
@@ -98,7 +98,7 @@ module _ (t : Parts) (e p : List ℕ) where
     X-length = upTo-length (transferAt e) n
 
     pub going-first : 12 ≤ length p → Going n (replicate 32 false) noCounts false 1
-    unfolding judge
+    unfolding judgeChain
     going-first h =
         let none = first-marks n 32 (omega arith) in record {
           prices = [];
@@ -144,13 +144,13 @@ module _ (t : Parts) (e p : List ℕ) where
       turn lengths l = chain-step lengths left i marks (g .prices) (g .size) l (g .unclaimed≡)
 
       -- a record that does not meet a question is refused
-      pub going-stops : 0 < left → (q ≡ 0 → ⊥) → (lengths : List ℕ) → refused q i ≡ judge (bookWith t lengths) (exchangeOf e) p
+      pub going-stops : 0 < left → (q ≡ 0 → ⊥) → (lengths : List ℕ) → refused q i ≡ judgeChain (bookWith t lengths) (exchangeOf e) p
       going-stops l h lengths =
           let stopped : chain (bookWith t lengths) (exchangeOf e) p left i (take n marks) (g .prices) ≡ refused q i = rw (ne-eqb q 0 h) at (turn lengths l) in
           rw stopped at (g .same lengths)
 
       -- the chain has ended
-      pub going-ends : left ≤ 0 → (lengths : List ℕ) → cond (isPaid e counts missing) (ok done) (refused 21 0) ≡ judge (bookWith t lengths) (exchangeOf e) p
+      pub going-ends : left ≤ 0 → (lengths : List ℕ) → cond (isPaid e counts missing) (ok done) (refused 21 0) ≡ judgeChain (bookWith t lengths) (exchangeOf e) p
       unfolding chain
       going-ends l lengths =
           let z : left ≡ 0 = omega arith in
@@ -197,7 +197,7 @@ module _ (t : Parts) (e p : List ℕ) where
             asked≡ lengths =
                 ap (λ (R : Rule). pricesOf R (cards r)) (rule-at t limited lengths (ruleNumber r) (ok-record .rule-bounds .0) (ok-record .rule-bounds .1)) ∙ prices≡ row r
 
-            same-answer : (lengths : List ℕ) → answerFrom lengths (left - 1) (set marks (claim r - 1) true) (pricesAt row r ++ g .prices) (next r) ≡ judge (bookWith t lengths) (exchangeOf e) p
+            same-answer : (lengths : List ℕ) → answerFrom lengths (left - 1) (set marks (claim r - 1) true) (pricesAt row r ++ g .prices) (next r) ≡ judgeChain (bookWith t lengths) (exchangeOf e) p
             same-answer lengths =
                 ap (λ (z : Answer Exchange). andThen z paying)
                 (ap₂ (λ (m : List Bool) (P : Exchange). chain (bookWith t lengths) (exchangeOf e) p (left - 1) (next r) m (P ++ g .prices)) marks≡ (sym (asked≡ lengths))

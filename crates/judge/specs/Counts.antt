@@ -1,5 +1,6 @@
 -- Question 21 over the bytes: for each transfer of the exchange one byte, how often its giver, kind and receiver are asked as a
 -- price, counted at the first of equal transfers, and one flag for a price that no transfer meets. How often it occurs is counted in the list that the exchange is read into.
+-- A private contract: nothing here has to be believed.
 use mathlib.Core.Path.{_≡_}
 use mathlib.Core.Bool.{Bool, not, _&&_, cond}
 use mathlib.Core.List.{List}

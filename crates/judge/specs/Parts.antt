@@ -1,4 +1,5 @@
 -- What the inner functions are given: the tables' parts that judging reads, with counts within their limits, and an exchange.
+-- A private contract: nothing here has to be believed.
 use mathlib.Core.Path.{_≡_}
 use mathlib.Core.List.{List}
 use Prim.Native.Nat.{ℕ, _≤_}
@@ -7,7 +8,7 @@ use Rattle.model.specs.Limits.{cardLimit, ruleLimit, exchangeLimit, recordSize,
 use Rattle.model.specs.Questions.{done}
 use Rattle.model.specs.Book.{Book}
 use Rattle.model.specs.Transfers.{exchangeOf}
-use Rattle.model.specs.Proof.{judge}
+use Rattle.model.specs.Proof.{judgeChain}
 use Rattle.answers.specs.declared.Answer.{Answer}
 use Rattle.answers.specs.View.{answerOf}
 use Rattle.rulebook.specs.View.{rowSize, bookFrom}
@@ -48,4 +49,4 @@ pub record Recorded (p : List ℕ) : Type 0 where
 
 -- what following the chain answers: questions 15 to 21
 abbrev pub Follows : Parts → List ℕ → List ℕ → Answer → Type 0
-Follows t e p answer = (lengths : List ℕ) → answerOf done answer ≡ judge (bookWith t lengths) (exchangeOf e) p
+Follows t e p answer = (lengths : List ℕ) → answerOf done answer ≡ judgeChain (bookWith t lengths) (exchangeOf e) p

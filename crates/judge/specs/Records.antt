@@ -1,5 +1,5 @@
 -- Questions 15 to 20 of a proof record over the bytes. They are put together as the code asks them; that the first unmet one is
--- the model's stands in proofs/Asking.antt.
+-- the model's stands in proofs/Asking.antt. A private contract: nothing here has to be believed.
 use mathlib.Core.Bool.{Bool, false, not, _&&_, cond}
 use mathlib.Core.List.{List, [], _∷_, _++_}
 use Prim.Native.Nat.{ℕ, _-_}

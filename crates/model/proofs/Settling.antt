@@ -14,7 +14,7 @@ use Rattle.model.specs.Book.{Book}
 use Rattle.model.specs.Transfers.{Exchange, contained, transferAt, exchangeOf}
 use Rattle.model.specs.Fairness.{Fair, isProper, Among}
 use Rattle.model.specs.Holdings.{State, gives, receives, isCovered, Covered, settled, sumTo, total}
-use Rattle.model.specs.Proof.{recordAt, next, asked, marked, recordQuestions, chain, judge}
+use Rattle.model.specs.Proof.{recordAt, next, asked, marked, recordQuestions, chain, judgeChain}
 use Rattle.model.specs.Calls.{settle, isSized, endsLimited, judging, replyTo}
 use Rattle.model.proofs.Tests.{T-eq, both}
 use Rattle.model.proofs.Places.{upTo-length, every-oneTo}
@@ -35,7 +35,7 @@ pub record Settled (b : Book) (s : State) (e : List ℕ) : Type 0 where
 pub record Judged (b : Book) (e p : List ℕ) (t : Told) : Type 0 where
   pub sized : T (isSized transferSize exchangeLimit e)
   pub among : Among b (exchangeOf e)
-  pub judged : judge b (exchangeOf e) p ≡ ok t
+  pub judged : judgeChain b (exchangeOf e) p ≡ ok t
 
 pub judged-ok : (b : Book) (e p : List ℕ) (t : Told) → judging b e p ≡ ok t → Judged b e p t
 unfolding judging
@@ -91,7 +91,7 @@ transfers e h =
     (omega arith, omega arith)
 
 judging-met : (b : Book) (e p : List ℕ) → T (isSized transferSize exchangeLimit e) → Among b (exchangeOf e) → T (isSized recordSize proofLimit p)
-    → judge b (exchangeOf e) p ≡ ok done → judging b e p ≡ ok done
+    → judgeChain b (exchangeOf e) p ≡ ok done → judging b e p ≡ ok done
 unfolding judging
 judging-met b e p size among size′ h =
     inOrder-met ((12 unless isSized transferSize exchangeLimit e) ∷ []) 0 _ (size, tt)
@@ -137,7 +137,7 @@ early-chain b X p (suc n) i m P =
     (early-chain b X p n (next (recordAt p i)) (marked m (recordAt p i)) (asked b (recordAt p i) ++ P))
 
 early-judging : (b : Book) (e p : List ℕ) → Early (judging b e p)
-unfolding judging judge
+unfolding judging judgeChain
 early-judging b e p =
     early ((12 unless isSized transferSize exchangeLimit e) ∷ []) 0 _ tt
     (early ((13 unless every (isProper b) (exchangeOf e)) ∷ []) (firstFailing (isProper b) 1 (exchangeOf e)) _ tt

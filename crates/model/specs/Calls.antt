@@ -12,7 +12,7 @@ use Rattle.model.specs.Book.{Book, declared}
 use Rattle.model.specs.Transfers.{Exchange, exchangeOf}
 use Rattle.model.specs.Fairness.{isProper}
 use Rattle.model.specs.Holdings.{State, gives, receives, isCovered, settled, total}
-use Rattle.model.specs.Proof.{judge}
+use Rattle.model.specs.Proof.{judgeChain}
 
 -- card, kind and count; card and kind; exchange and proof as bytes
 pub data Call : Type 0 where
@@ -40,7 +40,7 @@ judging b e p =
     inOrder ((12 unless isSized transferSize exchangeLimit e) ∷ []) 0
     (inOrder ((13 unless every (isProper b) (exchangeOf e)) ∷ []) (firstFailing (isProper b) 1 (exchangeOf e))
     (inOrder ((14 unless isSized recordSize proofLimit p) ∷ []) 0
-    (judge b (exchangeOf e) p)))
+    (judgeChain b (exchangeOf e) p)))
 
 -- questions 22 and 23
 abbrev pub lastQuestions : Book → State → Exchange → Reply

@@ -16,7 +16,7 @@ use Rattle.model.specs.Opening.{withLine, addLine, addLines, opening, bo
 use Rattle.model.specs.Transfers.{Exchange, _~_, exchangeOf}
 use Rattle.model.specs.Fairness.{Fair, Among}
 use Rattle.model.specs.Holdings.{State, Covered, MovedExactly, sumTo, total}
-use Rattle.model.specs.Proof.{judge}
+use Rattle.model.specs.Proof.{judgeChain}
 use Rattle.model.specs.Calls.{issue, redeem, settle, isSized, amount, replyTo, after}
 use Rattle.model.specs.History.{History, _▸_, issued, redeemed, received, given, notRefused, stateAfter, replyAfter}
 use Rattle.model.specs.Decision.{isFair}
@@ -70,7 +70,7 @@ GroupsRepeat = (b : Book) (g m : ℕ) → withLine (withLine b (group g m)) (gro
 
 -- the bytes pass questions 15 to 21
 abbrev pub Passes : Book → Exchange → List ℕ → Type 0
-Passes b X p = judge b X p ≡ ok done
+Passes b X p = judgeChain b X p ≡ ok done
 
 abbrev pub Soundness : Type 0
 Soundness = (b : Book) (X : Exchange) (p : List ℕ) → Among b X → Passes b X p → Fair b X

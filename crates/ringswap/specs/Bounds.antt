@@ -1,4 +1,4 @@
--- What was read lies within the buffer.
+-- What was read lies within the buffer. A private contract: nothing here has to be believed.
 use mathlib.Core.List.{List}
 use Prim.Native.Nat.{ℕ, _≤_}
 use lib.ListN.{length}

@@ -12,7 +12,7 @@ use Rattle.judge.specs.Parts.{Parts, parts, bookWith}
 use Rattle.judge.specs.Counts.{isPaid}
 use Rattle.judge.proofs.Following.{Going, going-first, going-stops, going-ends, Turn, turn-facts}
 use Rattle.model.specs.Questions.{ok, refused, done}
-use Rattle.model.specs.Proof.{recordAt, judge}
+use Rattle.model.specs.Proof.{recordAt, judgeChain}
 use Rattle.judge.proofs.chain.follow.Statement.{statement}
 use Rattle.judge.proofs.chain.follow.Tie as tie
 
@@ -58,7 +58,7 @@ turn c =
 
 -- the answer after the loop is question 21's
 ended : (c : tie.After-loop Inv-loop μ-loop) → let o = c .before .loop in let s = start (c .before) in (lengths : List ℕ)
-    → cond (isPaid (s .args .exchange .now) (o .counts) (o .missing)) (ok done) (refused 21 0) ≡ judge (bookWith (tables s) lengths) (exchangeOf (s .args .exchange .now)) (s .args .proof .now)
+    → cond (isPaid (s .args .exchange .now) (o .counts) (o .missing)) (ok done) (refused 21 0) ≡ judgeChain (bookWith (tables s) lengths) (exchangeOf (s .args .exchange .now)) (s .args .proof .now)
 ended c =
     let o = c .before .loop in
     let s = start (c .before) in
