@@ -1,24 +1,27 @@
 -- What opening and the calls answer and leave, from what reading a text and the calls over the holdings promise.
-use mathlib.Core.Path.{_≡_, refl, sym, ap}
+use mathlib.Core.Path.{_≡_, refl, sym, _∙_, ap}
 use mathlib.Core.Bool.{Bool, true, false, _&&_, cond}
 use mathlib.Core.List.{List}
 use Prim.Native.Nat.{ℕ}
+use lib.Dec.{T}
 use lib.ListN.{length, getD, replicate, length-replicate}
 use Rattle.model.specs.Limits.{cardLimit, kindCount}
 use Rattle.model.specs.Lists.{within}
 use Rattle.model.specs.Questions as model
 use Rattle.model.specs.Holdings.{noHoldings}
-use Rattle.model.specs.Calls.{Call, settle, replyTo, after}
+use Rattle.model.specs.Calls.{Call, settle, isRefused, replyTo, after}
 use Rattle.model.proofs.Places.{zeros}
+use Rattle.answers.specs.View.{answerOf, replyOf}
+use Rattle.answers.specs.declared.Answer.{Answer}
 use Rattle.answers.specs.declared.Answer.the-variants as answer
 use Rattle.answers.specs.declared.Reply.{Reply}
-use Rattle.answers.specs.declared.Reply.the-variants.{Done, Refused}
+use Rattle.answers.specs.declared.Reply.the-variants.{Refused}
 use Rattle.rulebook.specs.declared.Reading.{Reading}
 use Rattle.rulebook.proofs.Books.{card-count}
 use Rattle.rulebook.specs.Reads.{Reads}
 use Rattle.accounts.specs.Answered.{Answered}
 use Rattle.accounts.specs.View.{indexOf, stateFrom}
-use Rattle.settling.specs.Settles.{Settles}
+use Rattle.settling.specs.Settles.{Leaves, Settles}
 use Rattle.settling.proofs.Outcome.{settled-after}
 use Rattle.engine.specs.View.{bookOf, stateOf}
 use Rattle.engine.specs.Contracts.{Opens, Answers}
@@ -67,17 +70,17 @@ pub refuses : (e : Engine) (call : Call) (n i : ℕ) → replyTo (bookOf e) (sta
 unfolding after
 refuses e call n i q = record { answers = sym q; state = rw q; book = refl; size = refl; refused = λ k. refl }
 
-module _ (e : Engine) (x p : List ℕ) where
-  pub settle-refused : (n i : ℕ) (h : List ℕ)
-      → Settles (e .cards) (e .digits) (e .groups) (e .rules) (e .rows) (e .holdings) x p (answer.Refused n i) h → Answers e (settle x p) (Refused n i) e
-  settle-refused n i h s = refuses e (settle x p) n i (sym (s .answers (e .lengths)))
-
-  pub settle-done : (h : List ℕ)
-      → Settles (e .cards) (e .digits) (e .groups) (e .rules) (e .rows) (e .holdings) x p answer.Done h → Answers e (settle x p) Done (withHoldings e h)
-  settle-done h s = record {
-    answers = s .answers (e .lengths);
-    state = settled-after (e .cards) (e .digits) (e .groups) (e .rules) (e .rows) (e .holdings) x p answer.Done h s (e .lengths);
-    book = refl;
-    size = s .size;
-    refused = λ k. absurd k;
-  }
+-- a settlement, settled or refused
+pub settles : (e : Engine) (x p : List ℕ) (a : Answer) (r : Reply) (h : List ℕ) → replyOf r ≡ answerOf model.done a
+    → Settles (e .cards) (e .digits) (e .groups) (e .rules) (e .rows) (e .holdings) x p a h → Answers e (settle x p) r (withHoldings e h)
+settles e x p a r h q s = record {
+  answers = q ∙ s .answers (e .lengths);
+  state = settled-after (e .cards) (e .digits) (e .groups) (e .rules) (e .rows) (e .holdings) x p a h s (e .lengths);
+  book = refl;
+  size = s .size;
+  refused = λ k. ap (withHoldings e) (kept a (s .leaves) (rw q at k));
+}
+  where
+    kept : (a : Answer) → Leaves a (e .holdings) x h → T (isRefused (answerOf model.done a)) → h ≡ e .holdings
+    kept answer.Done l k = absurd k
+    kept (answer.Refused n i) l k = l
