@@ -15,13 +15,14 @@ fuzz: lib
 	@tests/till/run "$$(date +%s)" 1000000
 	@tests/transcripts "$$(date +%s)" 100000
 
-# The till's library and ringswap beside plain Rust: docs/BENCHMARKS.md. Blocks that are jumped to are aligned, since plain Rust's short loops
-# take up to twice the time where the linker happens to put them across a line of the cache.
+# The till's library, ringswap and the engine's calls beside plain Rust: docs/BENCHMARKS.md. Blocks that are jumped to are aligned, since
+# plain Rust's short loops take up to twice the time where the linker happens to put them across a line of the cache.
 bench: lib
-	@tests/build
+	@tests/build ringswap repeats
 	@cargo build --offline --quiet --release --manifest-path tests/reference/Cargo.toml
 	@RUSTFLAGS="-C llvm-args=-align-all-nofallthru-blocks=5" cargo build --offline --quiet --release --manifest-path bench/Cargo.toml
 	@bench/target/release/bench
+	@bench/target/release/engine
 
 # The till host's call for C: include/thawcroft.h and this archive.
 lib:

@@ -62,7 +62,7 @@ fn empty() -> Case {
     }
 }
 
-fn ring_of_three() -> Case {
+pub fn ring_of_three() -> Case {
     let mut holdings = vec![0; HOLDINGS];
     for slot in [0, 16 + 1, 2 * 16 + 2] {
         holdings[slot] = 30_000_000;

@@ -30,6 +30,7 @@ pub fn bench() -> Result<(), String> {
         "| ringswap, 1,000,000 issue lines | {ours:.0} | {plain:.0} | {:.2} |",
         ours / plain
     );
+    println!();
     Ok(())
 }
 
