@@ -24,7 +24,7 @@ use Rattle.judge.specs.Parts.{Parts, Limited, bookWith}
 use Rattle.judge.specs.Rows.{priceCount, priceAt, pricesAt}
 use Rattle.judge.specs.Records.{isClaimable, isLinked, ruleTests, recordTests}
 use Rattle.judge.specs.Notes.{Notable, Noted}
-use Rattle.judge.specs.Counts.{Room, Asks, isPaid}
+use Rattle.judge.specs.Counts.{FirstGifts, Room, Asks, isPaid}
 use Rattle.judge.proofs.Paying.{noCounts, asks-none, asks-more, asks-swap, counts-room, paid≡}
 use Rattle.model.proofs.Questions.{unmet-append, first-refuses}
 use Rattle.judge.proofs.Issuers.{prices≡, rule-at}
@@ -207,15 +207,15 @@ module _ (t : Parts) (e p : List ℕ) where
 -- ---- a turn of the loop
 
 -- what is known of record r, record i of the chain, once it has met its questions
-pub record Turn (t : Parts) (e p : List ℕ) (left : ℕ) (marks : List Bool) (counts : List ℕ) (missing : Bool) (r : List ℕ) : Type 0 where
-  pub notable : Notable e r marks counts
+pub record Turn (t : Parts) (e p firsts : List ℕ) (left : ℕ) (marks : List Bool) (counts : List ℕ) (missing : Bool) (r : List ℕ) : Type 0 where
+  pub notable : Notable e firsts r marks counts
   pub on : {found : Bool} {marks′ : List Bool} {after : List ℕ} → Noted e (t .rows) r marks counts found marks′ after
       → Going t e p (left - 1) marks′ after (missing || not found) (next r)
 
-pub turn-facts : (t : Parts) (e p : List ℕ) → Limited t → length e ≤ 96 → (left : ℕ) (marks : List Bool) (counts : List ℕ) (missing : Bool) (i : ℕ) (r : List ℕ)
+pub turn-facts : (t : Parts) (e p firsts : List ℕ) → Limited t → length e ≤ 96 → FirstGifts e (transfers e) firsts → (left : ℕ) (marks : List Bool) (counts : List ℕ) (missing : Bool) (i : ℕ) (r : List ℕ)
     → Going t e p left marks counts missing i → 0 < left → r ≡ recordAt p i → length r ≡ 12 → firstUnmet (recordTests t e r marks (left - 1) (length p / 12)) ≡ 0
-    → Turn t e p left marks counts missing r
-turn-facts t e p limited short left marks counts missing i r g some r≡ size met =
+    → Turn t e p firsts left marks counts missing r
+turn-facts t e p firsts limited short gifts left marks counts missing i r g some r≡ size met =
     let w = passed t e r marks (left - 1) (length p / 12) met in
     record {
       notable = record {
@@ -224,6 +224,7 @@ turn-facts t e p limited short left marks counts missing i r g some r≡ size me
         claim-bounds = omega (arith, w .claim-bounds);
         rule-bounds = omega (arith, w .rule-bounds, limited .rules≤);
         marked = g .size;
+        gifts = gifts;
         room = room t e p limited short left marks counts missing i g some;
       };
       on = λ {found} {marks′} {after} h. rw (h .claimed, r≡) (going-on t e p limited short left marks counts missing i g some (rw r≡ at met) after found (rw r≡ at (h .asked)));

@@ -22,6 +22,12 @@ pub record Room (e : List ℕ) (k : ℕ) (counts : List ℕ) : Type 0 where
   pub size : length counts ≡ exchangeLimit / transferSize
   pub free : (j : ℕ) → j < transfers e → getD counts j 0 + k ≤ 255
 
+-- of the first i transfers, for each card the first that it gives, or the number of transfers
+pub record FirstGifts (e : List ℕ) (i : ℕ) (firsts : List ℕ) : Type 0 where
+  pub size : length firsts ≡ 256
+  pub low : (c : ℕ) → c < 256 → getD firsts c 0 ≤ transfers e
+  pub none : (c j : ℕ) → c < 256 → j < i → j < getD firsts c 0 → transferAt e j .giver ≡ c → ⊥
+
 -- k at the first of equal transfers, nothing at the others
 unfoldable pub atFirst : List ℕ → ℕ → ℕ → ℕ
 atFirst e j k = cond (eqb (count (transferAt e j) (upTo (transferAt e) j)) 0) k 0

@@ -7,18 +7,19 @@ use lib.ListN.{length, set}
 use Rattle.model.specs.Limits.{ruleLimit, priceLimit}
 use Rattle.model.specs.Proof.{claim, ruleNumber}
 use Rattle.rulebook.specs.View.{rowAt}
-use Rattle.transfers.specs.View.{listSize}
+use Rattle.transfers.specs.View.{transfers, listSize}
 use Rattle.judge.specs.Parts.{Short, IsRecord}
 use Rattle.judge.specs.Rows.{pricesAt}
-use Rattle.judge.specs.Counts.{Room, Asks}
+use Rattle.judge.specs.Counts.{Room, FirstGifts, Asks}
 
 -- its transfer and its rule are within their limits, and the counts have room for its prices
-pub record Notable (e r : List ℕ) (marks : List Bool) (counts : List ℕ) : Type 0 where
+pub record Notable (e firsts r : List ℕ) (marks : List Bool) (counts : List ℕ) : Type 0 where
   pub short : Short e
   pub size : IsRecord r
   pub claim-bounds : (1 ≤ claim r) × (claim r ≤ listSize)
   pub rule-bounds : (1 ≤ ruleNumber r) × (ruleNumber r ≤ ruleLimit)
   pub marked : length marks ≡ listSize
+  pub gifts : FirstGifts e (transfers e) firsts
   pub room : Room e priceLimit counts
 
 -- its transfer is claimed and its prices are asked; all: each of them is a transfer of the exchange

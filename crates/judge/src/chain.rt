@@ -1,6 +1,7 @@
 // The chain of records from record 1, each question asked with a note of what was claimed, then question 21.
 use crate::layout;
 use crate::prices::ask_prices;
+use crate::prices::first_gifts;
 use crate::prices::is_paid;
 use crate::records::question;
 use crate::tables::record_at;
@@ -17,18 +18,19 @@ ghost use Rattle.judge.specs.Notes.{Notable, Noted};
 // A record that meets its questions claims its transfer and asks its rule's prices; whether each of these is a transfer.
 fn note(
     exchange: &[u8],
+    firsts: &[u8; 256],
     rows: &[u8; 1792],
     rec: &[u8],
     marks: &mut [bool; 32],
     counts: &mut [u8; 32],
 ) -> bool
-    requires { ⌜ Notable (now exchange) (now rec) (now marks) (now counts) ⌝ }
+    requires { ⌜ Notable (now exchange) (now firsts) (now rec) (now marks) (now counts) ⌝ }
     ensures { λ r. ⌜ Noted (now (exchange .entry)) (now (rows .entry)) (now (rec .entry)) (now (marks .entry)) (now (counts .entry)) r (now (marks .exit)) (now (counts .exit)) ⌝ }
 {
     let claimed = rec[layout::CLAIM] as usize - 1;
     marks[claimed] = true;
     let row = row_at(rows, rec[layout::RULE]);
-    ask_prices(exchange, row, rec, counts)
+    ask_prices(exchange, firsts, row, rec, counts)
 }
 
 // Question 21, the last.
@@ -54,13 +56,13 @@ pub(crate) fn follow<'a>(
     requires { ⌜ (Limited (parts cards (now digits) (now groups) rules (now rows))) × (Short (now exchange)) × (Recorded (now proof)) ⌝ }
     ensures { λ r. ⌜ Follows (parts cards (now (digits .entry)) (now (groups .entry)) rules (now (rows .entry))) (now (exchange .entry)) (now (proof .entry)) r ⌝ }
 {
-    let mut left = exchange.len() / layout::TRANSFER_SIZE;
+    let n = exchange.len() / layout::TRANSFER_SIZE;
+    let firsts = first_gifts(exchange);
     let mut marks = [false; 32];
     let mut counts = [0; 32];
     let mut missing = false;
     let mut next: usize = 1;
-    while 0 < left {
-        left -= 1;
+    for i in 0..n {
         let rec = record_at(proof, next - 1);
         let q = question(
             cards,
@@ -71,13 +73,13 @@ pub(crate) fn follow<'a>(
             exchange,
             rec,
             &marks,
-            left,
+            n - (i + 1),
             proof.len() / layout::RECORD_SIZE,
         );
         if q != 0 {
             return Answer::Refused(q, next as u32);
         }
-        missing = missing | !note(exchange, rows, rec, &mut marks, &mut counts);
+        missing = missing | !note(exchange, &firsts, rows, rec, &mut marks, &mut counts);
         next = rec[layout::NEXT] as usize;
     }
     last(exchange, &counts, missing)
