@@ -1,7 +1,7 @@
 // Issuing, redeeming and the holding query: questions 8 to 11.
 use crate::tell;
 
-pub fn questions() {
+pub(crate) fn questions() {
     tell::calls(
         tell::open(),
         b"issue to card 0:I 0 1 1;\
@@ -23,7 +23,7 @@ pub fn questions() {
     );
 }
 
-pub fn sums() {
+pub(crate) fn sums() {
     tell::calls(
         tell::open(),
         b"issue of 1,000,000,001:I 1 1 1000000001;\

@@ -44,7 +44,7 @@ fn settle(label: &[u8], held: u32, transfers: usize, records: usize) -> Engine
     tell::settle(label, open(held), &x[..bytes], &p[..size])
 }
 
-pub fn settlements() {
+pub(crate) fn settlements() {
     let e = settle(b"96 bytes, 32 records", 32, 32, 32);
     tell::calls(e, b"card 1's kind A:H 1 1;card 2's kind A:H 2 1;");
     settle(b"96 bytes while 31 are held", 31, 32, 32);

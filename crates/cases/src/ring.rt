@@ -29,7 +29,7 @@ fn settle(label: &[u8], engine: Engine) -> Engine {
     tell::settle(label, engine, &x, &p)
 }
 
-pub fn settles() {
+pub(crate) fn settles() {
     let e = settle(b"the ring", holding_engine());
     tell::calls(
         e,
@@ -57,7 +57,7 @@ fn with_proof(label: &[u8], proof: &[u8]) {
     ask(label, &x, proof);
 }
 
-pub fn sizes() {
+pub(crate) fn sizes() {
     with_exchange(b"exchange empty", b"");
     with_exchange(b"exchange of 8 bytes", &[1, 1, 2, 2, 2, 3, 3, 3]);
     with_proof(b"proof empty", b"");
@@ -87,7 +87,7 @@ fn in_proof(label: &[u8], at: usize, byte: u8)
     with_proof(label, &p);
 }
 
-pub fn transfers() {
+pub(crate) fn transfers() {
     in_exchange(b"giver undeclared", 3, 4);
     in_exchange(b"receiver 0", 5, 0);
     in_exchange(b"giver and receiver alike", 2, 1);
@@ -95,7 +95,7 @@ pub fn transfers() {
     in_exchange(b"kind 17", 7, 17);
 }
 
-pub fn records() {
+pub(crate) fn records() {
     in_proof(b"claims transfer 0", 1, 0);
     in_proof(b"claims transfer 4", 25, 4);
     in_proof(b"claims transfer 1 twice", 13, 1);
@@ -106,7 +106,7 @@ pub fn records() {
     in_proof(b"rule of another kind", 2, 6);
 }
 
-pub fn cards() {
+pub(crate) fn cards() {
     in_proof(b"byte 3 not zero", 3, 1);
     in_proof(b"used variable zero", 5, 0);
     in_proof(b"used variable undeclared", 17, 4);
@@ -116,13 +116,13 @@ pub fn cards() {
     in_proof(b"price not paid", 5, 2);
 }
 
-pub fn links() {
+pub(crate) fn links() {
     in_proof(b"next zero too early", 0, 0);
     in_proof(b"next past the proof", 12, 4);
     in_proof(b"next not zero at the end", 24, 1);
 }
 
-pub fn swaps() {
+pub(crate) fn swaps() {
     ask(b"P9", &[2, 2, 1], b"\0\x01\x04\0\x01\0\0\0\0\0\0\0");
     ask(b"P10", &[1, 1, 2], b"\0\x01\x01\0\x02\x01\0\0\0\0\0\0");
     ask(
@@ -136,7 +136,7 @@ pub fn swaps() {
 }
 
 // The ring's records at 1, 5 and 3, with records between them that nobody may read.
-pub fn other_order() {
+pub(crate) fn other_order() {
     with_proof(
         b"another order with records off the chain",
         b"\x05\x03\x03\0\x01\x02\0\0\0\0\0\0\

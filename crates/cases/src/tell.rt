@@ -4,7 +4,7 @@ use commands::Command;
 use engine::Engine;
 
 // 01's book.
-pub fn open() -> Engine {
+pub(crate) fn open() -> Engine {
     let opened = engine::open(
         b"C 700056000016\nC 700012000019\nC 700012000027\nG 1 2\n\
           R 1 A a < b C *\nR 2 B a < b A *\nR 3 C a < b B *\nR 2 B a < a D * = a *\n\
@@ -21,7 +21,7 @@ fn tell(label: &[u8], reply: Reply) {
     io::write_all(1, &out[..count]);
 }
 
-pub fn settle(label: &[u8], engine: Engine, exchange: &[u8], proof: &[u8]) -> Engine {
+pub(crate) fn settle(label: &[u8], engine: Engine, exchange: &[u8], proof: &[u8]) -> Engine {
     let called = engine::settle(engine, exchange, proof);
     let reply = called.reply;
     tell(label, reply);
@@ -42,7 +42,7 @@ fn call(label: &[u8], engine: Engine, line: &[u8]) -> Engine {
 }
 
 // The calls of a table, one behind the other: a row is a label, `:`, a command line and `;`.
-pub fn calls(engine: Engine, table: &[u8]) -> Engine {
+pub(crate) fn calls(engine: Engine, table: &[u8]) -> Engine {
     let mut next = engine;
     let mut at = 0;
     while at < table.len() {

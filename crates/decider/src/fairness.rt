@@ -159,6 +159,6 @@ fn accepted(x: [u8; 9], step: usize, own: [u8; 9], free: [u8; 9]) -> bool
 }
 
 // Whether the exchange is fair.
-pub fn fair(x: [u8; 9]) -> bool {
+pub(crate) fn fair(x: [u8; 9]) -> bool {
     accepted(x, 0, x, x)
 }

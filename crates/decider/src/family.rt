@@ -180,7 +180,7 @@ fn total() -> Outcome {
 }
 
 // One line with the counts; a disagreement between the two is a mistake in one of them.
-pub fn agrees() {
+pub(crate) fn agrees() {
     let total = total();
     io::write_all(1, b"family: ");
     io::print_decimal(1, total.exchanges as u64);

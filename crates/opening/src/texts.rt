@@ -4,7 +4,7 @@ ghost use lib.ListN.{length};
 ghost use Rattle.io.specs.Counts.{Counts};
 
 // The bytes put at a place, and the place behind them.
-pub fn put(buffer: &mut [u8], at: usize, bytes: &[u8]) -> usize
+pub(crate) fn put(buffer: &mut [u8], at: usize, bytes: &[u8]) -> usize
     requires { ⌜ at ≤ length (now buffer) ⌝ }
     ensures { λ r. ⌜ Counts r (now (buffer .exit)) ⌝ }
 {
@@ -22,7 +22,7 @@ pub fn put(buffer: &mut [u8], at: usize, bytes: &[u8]) -> usize
 }
 
 // The line put so many times.
-pub fn repeat(buffer: &mut [u8], at: usize, line: &[u8], times: usize) -> usize
+pub(crate) fn repeat(buffer: &mut [u8], at: usize, line: &[u8], times: usize) -> usize
     requires { ⌜ at ≤ length (now buffer) ⌝ }
     ensures { λ r. ⌜ Counts r (now (buffer .exit)) ⌝ }
 {
@@ -47,7 +47,7 @@ fn card(buffer: &mut [u8], at: usize, number: u8) -> usize
 }
 
 // Cards with the numbers 0, 1, .., so many of them.
-pub fn cards(buffer: &mut [u8], count: u8) -> usize
+pub(crate) fn cards(buffer: &mut [u8], count: u8) -> usize
     ensures { λ r. ⌜ Counts r (now (buffer .exit)) ⌝ }
 {
     let mut next = 0;

@@ -4,9 +4,9 @@ use engine::Engine;
 ghost use Prim.Native.Nat.{_≤_};
 
 // The engine after the calls, and how many of them were not refused.
-pub struct Repeated {
-    pub engine: Engine,
-    pub count: u32,
+pub(crate) struct Repeated {
+    pub(crate) engine: Engine,
+    pub(crate) count: u32,
 }
 
 // 1 for a call that was not refused.
@@ -29,7 +29,7 @@ fn told(reply: Reply) -> u32 {
     }
 }
 
-pub fn issue(engine: Engine, card: u32, kind: u32, tokens: u32, times: u32) -> Repeated
+pub(crate) fn issue(engine: Engine, card: u32, kind: u32, tokens: u32, times: u32) -> Repeated
     ensures { λ r. ⌜ r .count ≤ times ⌝ }
 {
     let mut next = engine;
@@ -46,7 +46,7 @@ pub fn issue(engine: Engine, card: u32, kind: u32, tokens: u32, times: u32) -> R
     }
 }
 
-pub fn redeem(engine: Engine, card: u32, kind: u32, tokens: u32, times: u32) -> Repeated
+pub(crate) fn redeem(engine: Engine, card: u32, kind: u32, tokens: u32, times: u32) -> Repeated
     ensures { λ r. ⌜ r .count ≤ times ⌝ }
 {
     let mut next = engine;
@@ -64,7 +64,7 @@ pub fn redeem(engine: Engine, card: u32, kind: u32, tokens: u32, times: u32) -> 
 }
 
 // What a query tells is the kind that is asked next, so that the compiler cannot leave a query out.
-pub fn holding(engine: Engine, card: u32, first: u32, times: u32) -> Repeated
+pub(crate) fn holding(engine: Engine, card: u32, first: u32, times: u32) -> Repeated
     ensures { λ r. ⌜ r .count ≤ times ⌝ }
 {
     let mut next = engine;
@@ -83,7 +83,7 @@ pub fn holding(engine: Engine, card: u32, first: u32, times: u32) -> Repeated
     }
 }
 
-pub fn settle(engine: Engine, exchange: &[u8], proof: &[u8], times: u32) -> Repeated
+pub(crate) fn settle(engine: Engine, exchange: &[u8], proof: &[u8], times: u32) -> Repeated
     ensures { λ r. ⌜ r .count ≤ times ⌝ }
 {
     let mut next = engine;

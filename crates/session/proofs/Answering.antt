@@ -7,7 +7,7 @@ use Prim.Native.Nat.{ℕ, _-_, _*_, _≤_, _<_}
 use native.Mathlib.Omega.{arith}
 use native.Mathlib.Nat.{min-eq-left}
 use lib.Dec.{ltb}
-use lib.ListN.{length, take, drop, length-append, length-take, length-drop}
+use lib.ListN.{length, take, drop, length-take, length-drop}
 use lib.Seq.{take-all, take-at}
 use borrow.Author.Tests.{le-leb, lt-leb}
 use Rattle.model.specs.Limits.{lineLimit}
@@ -23,7 +23,8 @@ use Rattle.settling.specs.Settles.{Settles}
 use Rattle.settling.proofs.Outcome.{settled-after}
 use Rattle.commands.specs.Grammar.{printReply, printBad}
 use Rattle.commands.specs.Reader.{bytesOf, pairOf, readCommand}
-use Rattle.commands.specs.View.{wordAt, over, Filled, Printed}
+use Rattle.commands.specs.View.{wordAt, Filled, Printed}
+use Rattle.commands.proofs.Buffers.{printed-front}
 use Rattle.commands.specs.Parts.{Put}
 use Rattle.commands.specs.declared.Place.{Place}
 use Rattle.session.specs.Input.{commandIn}
@@ -52,12 +53,6 @@ word-bytes w buffer after n l b f =
     let all : take (length buffer) (bytesOf w) ≡ bytesOf w = take-all (length buffer) (bytesOf w) few in
     let count : length (bytesOf w) ≡ n = sym (f .counted ∙ min-eq-left few) in
     ap (take n) (f .filled) ∙ rw all (take-at (bytesOf w) (drop (length (bytesOf w)) buffer) n count)
-
--- as many as are counted
-pub filled-count : {bytes buffer after : List ℕ} {n : ℕ} → Filled bytes buffer after n → n ≡ length (take n after)
-filled-count {bytes} {buffer} {after} {n} f =
-    let l = length-append (take (length buffer) bytes) (drop (length bytes) buffer) in
-    omega (arith, f .counted, length-take n after, ap length (f .filled), l, length-take (length buffer) bytes)
 
 module _ (cards : ℕ) (digits groups : List ℕ) (rules : ℕ) (rows h : List ℕ) where
   -- ---- a call performed
@@ -111,27 +106,6 @@ module _ (cards : ℕ) (digits groups : List ℕ) (rules : ℕ) (rows h : List �
     ill-formed l e q = bad (rw (le-leb (length line) lineLimit l) e) q
 
 -- ---- the answer put behind those before it
-
--- what is put over a buffer that has room for it
-pub over-front : (text buffer after : List ℕ) (n : ℕ) → after ≡ over text buffer → n ≡ length text → length text ≤ length buffer → take n after ≡ text
-over-front text buffer after n p c l =
-    ap (take n) p ∙ rw (take-all (length buffer) text l) (take-at text (drop (length text) buffer) n (sym c))
-
-module _ {text buffer after : List ℕ} {n : ℕ} (p : Printed text buffer after n) (long : length buffer ≡ 32) where
-  pub printed-long : length after ≡ 32
-  printed-long =
-      let l = length-append (take (length buffer) text) (drop (length text) buffer) in
-      omega (arith, p .fits, ap length (p .printed), l, length-take (length buffer) text, length-drop (length text) buffer)
-
-  pub printed-within : n ≤ length after
-  printed-within = omega (arith, p .counted, p .fits, printed-long)
-
-  pub printed-front : take n after ≡ text
-  printed-front = over-front text buffer after n (p .printed) (p .counted) (omega (arith, p .fits))
-
--- what a caller writes out
-pub printed-count : {text buffer out : List ℕ} {n : ℕ} → Printed text buffer out n → length buffer ≡ 32 → n ≡ length (take n out)
-printed-count {text} {buffer} {out} {n} p l = omega (arith, length-take n out, printed-within p l)
 
 pub ended : (cards : ℕ) (digits groups : List ℕ) (rules : ℕ) (rows h line : List ℕ) (size : ℕ) (part line′ : List ℕ) (kept : ℕ) (reply : List ℕ) (n : ℕ) (h′ reply′ out : List ℕ) (at : ℕ) (out′ : List ℕ) (r : ℕ)
     → Kept line size part line′ kept → LineAnswered cards digits groups rules rows h (take kept line′) reply n h′ reply′ → length reply ≡ 32

@@ -26,7 +26,7 @@ use Rattle.session.specs.declared.Session.{Session}
 use Rattle.session.specs.declared.Fed.{Fed}
 use Rattle.session.proofs.Keeping.{take-least}
 use Rattle.session.proofs.Lines.{last-says}
-use Rattle.session.proofs.Answering.{over-front}
+use Rattle.commands.proofs.Buffers.{over-front}
 
 -- ---- beginning
 

@@ -1,6 +1,6 @@
 -- Both words' bytes lie within their buffers.
 use borrow.Author.Needs.{needs}
-use Rattle.session.proofs.Answering.{filled-count}
+use Rattle.commands.proofs.Buffers.{filled-count}
 use Rattle.repeats.proofs.settle.Statement.{statement}
 use Rattle.repeats.proofs.settle.Tie as tie
 

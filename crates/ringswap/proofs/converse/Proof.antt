@@ -2,7 +2,7 @@
 use mathlib.Core.Path.{_≡_}
 use lib.ListN.{length}
 use borrow.Author.Needs.{needs}
-use Rattle.session.proofs.Answering.{printed-within, printed-count}
+use Rattle.commands.proofs.Buffers.{printed-within, printed-count}
 use Rattle.ringswap.proofs.converse.Statement.{statement}
 use Rattle.ringswap.proofs.converse.Tie as tie
 

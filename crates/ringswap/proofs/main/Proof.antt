@@ -2,7 +2,7 @@
 use mathlib.Core.Path.{sym}
 use lib.Seq.{length-take-le}
 use borrow.Author.Needs.{needs}
-use Rattle.session.proofs.Answering.{printed-within, printed-count}
+use Rattle.commands.proofs.Buffers.{printed-within, printed-count}
 use Rattle.ringswap.proofs.main.Statement.{statement}
 use Rattle.ringswap.proofs.main.Tie as tie
 

@@ -1,6 +1,6 @@
 -- The answer lies within its buffer.
 use borrow.Author.Needs.{needs}
-use Rattle.session.proofs.Answering.{printed-within}
+use Rattle.commands.proofs.Buffers.{printed-within}
 use Rattle.ringswap.proofs.say_bad.Statement.{statement}
 use Rattle.ringswap.proofs.say_bad.Tie as tie
 

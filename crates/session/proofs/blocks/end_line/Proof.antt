@@ -4,7 +4,8 @@ use mathlib.Core.Path.{sym}
 use native.Mathlib.Omega.{arith}
 use lib.ListN.{length-take}
 use borrow.Author.Needs.{needs}
-use Rattle.session.proofs.Answering.{printed-long, ended}
+use Rattle.commands.proofs.Buffers.{printed-long}
+use Rattle.session.proofs.Answering.{ended}
 use Rattle.session.proofs.blocks.end_line.Statement.{statement}
 use Rattle.session.proofs.blocks.end_line.Tie as tie
 

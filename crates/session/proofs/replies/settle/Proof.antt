@@ -3,7 +3,8 @@ use mathlib.Core.Path.{ap}
 use borrow.Author.Needs.{needs}
 use Rattle.model.specs.Questions.{done}
 use Rattle.answers.specs.View.{answerOf}
-use Rattle.session.proofs.Answering.{filled-count, performed-words}
+use Rattle.commands.proofs.Buffers.{filled-count}
+use Rattle.session.proofs.Answering.{performed-words}
 use Rattle.session.proofs.replies.settle.Statement.{statement}
 use Rattle.session.proofs.replies.settle.Tie as tie
 
