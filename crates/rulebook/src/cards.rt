@@ -38,7 +38,10 @@ fn is_known(s: &[u8], n: usize, digits: &[u8; 608], lengths: &[u8; 32]) -> bool
         if count != s.len() {
             continue 'cards;
         }
-        for d in 0..count {
+        // From the last digit on: the first ones are the issuer's, which many cards share.
+        let mut d = count;
+        while 0 < d {
+            d -= 1;
             if digits[i * MOST_DIGITS + d] != ascii::digit(s[d]) {
                 continue 'cards;
             }

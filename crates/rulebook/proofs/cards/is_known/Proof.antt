@@ -1,21 +1,21 @@
--- Cards before i are unlike the digits. Card i is told from them by its length or by the first digit that differs; otherwise it is equal.
+-- Cards before i are unlike the digits. Card i is told from them by its length or by the last digit that differs; otherwise it is equal.
 use mathlib.Core.Path.{_≡_, refl, sym, _∙_}
 use mathlib.Core.Bool.{false}
 use Prim.Native.Nat.{ℕ, _+_, _*_, _-_, _<_, _≤_}
-use borrow.Author.Count.{below-more}
+use native.Mathlib.Omega.{arith}
 use lib.ListN.{getD}
 use Rattle.model.specs.Reader.{digitOf}
 use Rattle.forms.proofs.Digits.{AtByte}
-use Rattle.rulebook.proofs.Known.{Unlike, Alike, other-length, other-digit, equal-card}
+use Rattle.rulebook.proofs.Known.{from-more, Unlike, Alike, other-length, other-digit, equal-card}
 use borrow.Author.Needs.{needs}
 use Rattle.rulebook.proofs.cards.is_known.Statement.{statement}
 use Rattle.rulebook.proofs.cards.is_known.Tie as tie
 
 abbrev Inv-loop : tie.InvT-loop
-Inv-loop s n digits lengths known i₀ count d₀ i d = (d ≤ count) × (i ≡ i₀) × ((k : ℕ) → k < d → getD digits (i₀ * 19 + k) 0 ≡ digitOf (getD s k 0))
+Inv-loop s n digits lengths known i₀ count d₀ i d = (d ≤ count) × (i ≡ i₀) × ((k : ℕ) → d ≤ k → k < count → getD digits (i₀ * 19 + k) 0 ≡ digitOf (getD s k 0))
 
 abbrev μ-loop : tie.MeasureT-loop
-μ-loop s n digits lengths known i₀ count d₀ i d = count - d
+μ-loop s n digits lengths known i₀ count d₀ i d = d
 
 abbrev Inv-cards : tie.InvT-cards
 Inv-cards s n digits lengths known₀ i₀ known i = (i ≤ n) × Unlike digits lengths s i × (known ≡ false)
@@ -33,7 +33,7 @@ cards-again c =
     (search needs, other-length (a .digits .now) (a .lengths .now) (a .s .now) (outer .i) (outer .inv .1) (λ e. c .if1 .taken (c .before .card-length .ensures ∙ e)), outer .inv .2)
 
 loop-holds : tie.Need-loop-holds Inv-loop μ-loop Inv-cards μ-cards
-loop-holds c = (search needs, refl, λ k l. absurd (search needs))
+loop-holds c = (search needs, refl, λ k l m. absurd (omega arith))
 
 -- ---- a turn of the inner loop: the places around it, and what is known there
 
@@ -48,14 +48,14 @@ alike : (c : tie.At-loop Inv-loop μ-loop Inv-cards μ-cards)
 alike c = record {
   before = outer c .cards .inv .1;
   length-is = sym (c .before .before .card-length .ensures) ∙ c .before .if1 .left;
-  digits-are = c .loop .inv .2;
+  digits-are = λ k l m. c .loop .inv .2 k l (omega (arith, m, c .before .if1 .left));
 }
 
 abbrev inner : tie.After-digit Inv-loop μ-loop Inv-cards μ-cards → tie.At-loop Inv-loop μ-loop Inv-cards μ-cards
 inner c = c .before .before .before .before
 
-turn : (c : tie.After-digit Inv-loop μ-loop Inv-cards μ-cards) → AtByte (start (inner c) .args .s .now) (inner c .loop .d) (c .digit .result)
-turn c = record { within = search needs; digit = c .digit .ensures .0 }
+turn : (c : tie.After-digit Inv-loop μ-loop Inv-cards μ-cards) → AtByte (start (inner c) .args .s .now) (inner c .loop .d - 1) (c .digit .result)
+turn c = record { within = omega (arith, inner c .loop .inv .0, c .before .before .before .loop-test .taken, inner c .before .if1 .left); digit = c .digit .ensures .0 }
 
 cards-again-2 : tie.Need-cards-again-2 Inv-loop μ-loop Inv-cards μ-cards
 cards-again-2 c =
@@ -66,7 +66,7 @@ cards-again-2 c =
 loop-again : tie.Need-loop-again Inv-loop μ-loop Inv-cards μ-cards
 loop-again c =
     let h = inner (c .before) .loop in
-    (search needs, h .inv .1, below-more _ _ (h .inv .2) (rw (h .inv .1) at (c .if2 .left) ∙ c .before .digit .ensures .0))
+    (search needs, h .inv .1, from-more _ _ _ (c .before .before .before .before .loop-test .taken) (h .inv .2) (rw (h .inv .1) at (c .if2 .left) ∙ c .before .digit .ensures .0))
 
 returns : tie.Need-returns Inv-loop μ-loop Inv-cards μ-cards
 returns c =
@@ -96,11 +96,11 @@ is-known-spec =
     (λ c. search needs)
     (λ c. search needs)
     (λ c. search needs)
+    (λ c. search needs)
     (λ c κs. search needs)
     (λ c. search needs)
     (λ c. search needs)
     cards-again-2
-    (λ c. search needs)
     (λ c. search needs)
     loop-again
     returns
