@@ -6,13 +6,17 @@
  * Rule text: ASCII lines, each ended by LF, words one space apart. Cards and rules are numbered from 1 as they stand.
  *   C digits      a card: 12 to 19 digits, the last of them the Luhn check digit
  *   G g m         card m is in group g, 1 to 8
- *   R m K v       card m gives one token of kind K, A to P, to v, a variable a to h; then up to four prices and up to four conditions:
- *     < w K y       the variable w gives y, another variable or * for card m, one token of kind K
+ *   R m K v       card m gives one token of kind K, A to P, to the card for v, a variable a to h. On the same line, each behind a space,
+ *                 follow up to four prices and then up to four conditions; the rule serves where every price is a transfer of the
+ *                 exchange and every condition holds:
+ *     < w K y       the card for the variable w gives one token of kind K to y, another variable or * for card m
  *     ? g z         z, a variable or *, is in group g
  *     = y z         the cards y and z, variables or *, have the same first six digits
+ *   m is 1 to 99 without a leading zero, and its C line stands above.
  * Exchange: 1 to 32 transfers of three bytes, giver, kind (A is 1, P is 16) and receiver.
  * Proof: records of twelve bytes, numbered from 1: the next record, the transfer claimed (from 1), the rule used, 0, and the cards for a to h
  *   (0 where the rule does not use the variable). The chain starts at record 1, claims each transfer once, and ends with a next of 0.
+ *   There are at most 255 records; one off the chain is never read.
  */
 #ifndef THAWCROFT_H
 #define THAWCROFT_H
@@ -35,7 +39,7 @@ enum thawcroft_answer {
     /* Settled: each holding has lost what the card gives and gained what it receives. */
     THAWCROFT_DONE = 0,
 
-    /* The rule text, its first line that fails. */
+    /* The rule text: what its first failing line does not meet. */
     THAWCROFT_TEXT_TOO_LONG = 1,   /* more than 16,384 bytes */
     THAWCROFT_NO_FORM = 2,         /* a line has none of the three forms, or no LF */
     THAWCROFT_TOO_MANY_CARDS = 3,  /* a 33rd card */
@@ -53,7 +57,7 @@ enum thawcroft_answer {
     THAWCROFT_PROOF_SIZE = 14,      /* not 12 to 3,060 bytes, a multiple of 12 */
     THAWCROFT_BAD_CLAIM = 15,       /* a record's transfer is not in the exchange, or claimed earlier in the chain */
     THAWCROFT_WRONG_RULE = 16,      /* no such rule, or not one with the transfer's giver and kind */
-    THAWCROFT_BAD_CARDS = 17,       /* byte 3 not zero, or wrong cards for the variables */
+    THAWCROFT_BAD_CARDS = 17,       /* byte 3 not zero, a used variable's card not declared, the head's not the receiver, or an unused one's not zero */
     THAWCROFT_BAD_PRICE = 18,       /* a price from the owner, or from a card to itself */
     THAWCROFT_CONDITION_UNMET = 19, /* a condition does not hold */
     THAWCROFT_BAD_LINK = 20,        /* next does not end the chain with the last claim, or is no record */

@@ -30,7 +30,7 @@ unfoldable pub valueFrom : ℕ → List ℕ → ℕ
 valueFrom v [] = v
 valueFrom v (x ∷ xs) = valueFrom (v * 10 + digitOf x) xs
 
--- `0`, or digits of which the first is none
+-- not empty, and no `0` in front of another byte
 unfoldable pub isPlain : List ℕ → Bool
 isPlain w = leb 1 (length w) && (leb (length w) 1 || not (eqb (getD w 0 0) (code "0")))
 

@@ -35,7 +35,7 @@ Inside line (Query m k) = Unit
 Inside line (Settle w) = LiesIn line (w .exchange) × LiesIn line (w .proof)
 Inside line Bad = Unit
 
--- the command is this reading of the line
+-- the command is this reading of the line; of a settlement's words the bytes are told, and that they lie in the line: where in it is free
 pub record Reads (line : List ℕ) (reading : Option Call) (command : Command) : Type 0 where
   pub means : commandOf line command ≡ reading
   pub inside : Inside line command

@@ -6,7 +6,7 @@ use Rattle.model.specs.Limits.{priceLimit, conditionLimit}
 use Rattle.model.specs.Reader.{isRuleLine, headEnd, pricesEnd, priceWidth, conditionWidth, priceCount, conditionCount}
 use Rattle.forms.specs.declared.rules.RuleForm.{RuleForm}
 
--- no form is longer than this: `R 99 K v`, four prices, four conditions
+-- no rule line is longer than this: `R 99 K v`, four prices, four conditions
 abbrev pub longest : ℕ
 longest = 64
 

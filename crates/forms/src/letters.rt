@@ -10,7 +10,7 @@ const BEFORE_A: u8 = b'A' - 1;
 // Variables are numbered from 0, and the name `*` is numbered behind them.
 pub(crate) const STAR: u8 = limits::VARIABLE_COUNT;
 
-// What says that a byte is none of the letters asked for.
+// What says that a byte is no variable, and no name.
 const NO_VARIABLE: u8 = 9;
 
 // 1 to 16, or 0.

@@ -1,4 +1,4 @@
-// The forms of a rule text's lines, without their LF: question 2, and what the letters of a line stand for.
+// The forms of a rule text's lines, without their LF: question 2; card numbers: question 4; and what the letters of a line stand for.
 mod cards;
 mod groups;
 mod letters;

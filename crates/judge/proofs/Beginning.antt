@@ -16,7 +16,7 @@ use Rattle.model.specs.Proof.{judgeChain}
 use Rattle.model.specs.Calls.{isSized, judging}
 use Rattle.model.proofs.Tests.{both-true}
 use Rattle.rulebook.specs.View.{bookFrom}
-use Rattle.transfers.specs.View.{isProperOf}
+use Rattle.model.specs.Fairness.{isProperOf}
 use Rattle.judge.specs.Parts.{Parts, parts, bookWith, Limited, Recorded}
 use Rattle.model.proofs.Loops.{failing-every}
 use Rattle.judge.proofs.Issuers.{cards-length}

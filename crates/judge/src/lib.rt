@@ -2,7 +2,7 @@
 // Modules: `sizes` asks 12 and 14 (crate transfers 13), `records` 15, 16 and 20, `variables` 17, `prices` 18 and 21, `conditions` 19;
 // `chain` takes the records in turn.
 //
-// The tables come as their parts (rulebook::Tables without the lengths of the cards, which no question needs), so that a caller
+// The tables come as their parts (rulebook::Tables without the lengths of the cards, which none of these questions needs), so that a caller
 // lends what it has and nothing is copied. Any value of them is taken: counts past their limit are cut to it.
 mod chain;
 mod conditions;

@@ -1,4 +1,5 @@
-// The numbers of document 01 that more than one crate needs, each at its smallest width, and a number held to such a bound.
+// The numbers of document 01 that more than one crate needs, each at its smallest width, and the size of a rule's row; and a number
+// held to such a bound.
 ghost use mathlib.Core.Path.{_≡_};
 ghost use Prim.Native.Nat.{min};
 ghost use Rattle.model.specs.Lists.{within};

@@ -2,7 +2,7 @@
 use mathlib.Core.Path.{_≡_, refl, sym, ap, ap₂, _∙_, subst}
 use mathlib.Core.Bool.{Bool, true, false, _&&_}
 use mathlib.Core.List.{List, [], _∷_, _++_}
-use Prim.Native.Nat.{ℕ, _+_, _*_, _≤_}
+use Prim.Native.Nat.{ℕ, _+_, _-_, _*_, _≤_}
 use native.Mathlib.Omega.{arith}
 use lib.Dec.{T, eqb, leb, eqb→eq, leb→le}
 use lib.ListN.{length}
@@ -37,6 +37,14 @@ takes-le b s (redeem c k n) t h d j =
 takes-le b s (query c k) t h d j = omega arith
 takes-le b s (settle e p) t h d j = omega (arith, covered→ s (exchangeOf e) (settled-ok b s e p t h .covered) d j)
 
+-- ---- the state afterwards, by what the call brings and takes
+
+pub changed-is : (s : State) (call : Call) (d j : ℕ) → changed s call .held d j ≡ (s .held d j + (issues call d j + receivedIn call d j)) - (redeems call d j + givenIn call d j)
+changed-is s (issue c k n) d j = omega arith
+changed-is s (redeem c k n) d j = omega arith
+changed-is s (query c k) d j = omega arith
+changed-is s (settle e p) d j = omega arith
+
 -- ---- the sums
 
 -- what is taken and what is left are what was there and what came
@@ -52,7 +60,7 @@ balance s call h k = go cardLimit
         let r = sum-add (λ c. issues call c k + receivedIn call c k) (λ c. issues call c k) (λ c. receivedIn call c k) n (λ c. refl) in
         let x = sum-add (λ c. s .held c k + (issues call c k + receivedIn call c k)) (λ c. s .held c k) (λ c. issues call c k + receivedIn call c k) n (λ c. refl) in
         let y = sum-add (λ c. s .held c k + (issues call c k + receivedIn call c k)) (λ c. changed s call .held c k) (λ c. redeems call c k + givenIn call c k) n
-        (λ c. omega (arith, h c k)) in
+        (λ c. omega (arith, h c k, changed-is s call c k)) in
         omega (arith, l, r, x, y)
 
 pub after-ok : (b : Book) (s : State) (call : Call) (t : Told) → replyTo b s call ≡ ok t → after b s call ≡ changed s call

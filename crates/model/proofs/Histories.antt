@@ -16,7 +16,7 @@ use Rattle.model.specs.Theorems.{Histories}
 use Rattle.model.proofs.Sums.{sum-add, sum-zero, given-is-received, covered→}
 use Rattle.model.proofs.Settling.{settled-ok, settles}
 use Rattle.model.proofs.Completeness.{Shaped}
-use Rattle.model.proofs.Conservation.{takes-le, limit-kept}
+use Rattle.model.proofs.Conservation.{takes-le, changed-is, limit-kept}
 
 -- no more was taken than had come
 abbrev pub Natural : List Call → Type 0
@@ -32,7 +32,7 @@ state-more calls call n h = (
 )
   where
     same : (c k : ℕ) → stateBy (call ∷ calls) .held c k ≡ changed (stateBy calls) call .held c k
-    same c k = omega (arith, n c k, h c k)
+    same c k = omega (arith, n c k, h c k, changed-is (record { held = stateBy calls .held }) call c k)
 
 module _ (b : Book) where
   -- a call right after the list, by whether it is refused

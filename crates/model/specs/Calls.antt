@@ -90,8 +90,12 @@ abbrev pub isRefused : Reply → Bool
 isRefused (ok t) = false
 isRefused (refused n i) = true
 
+-- what a call that is not refused makes of the holdings
 abbrev pub changed : State → Call → State
-changed s call = record { held = λ d j. (s .held d j + (issues call d j + receivedIn call d j)) - (redeems call d j + givenIn call d j) }
+changed s (issue c k n) = record { held = λ d j. s .held d j + amount c k n d j }
+changed s (redeem c k n) = record { held = λ d j. s .held d j - amount c k n d j }
+changed s (query c k) = s
+changed s (settle e p) = record { held = settled s (exchangeOf e) }
 
 -- a refused call changes no holding
 unfoldable pub after : Book → State → Call → State

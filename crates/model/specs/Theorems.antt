@@ -1,5 +1,6 @@
 -- What is proved of the definitions, as named statements. `proofs/Theorems.antt` has a proof of each.
 use mathlib.Core.Path.{_≡_}
+use mathlib.Core.Bool.{true}
 use mathlib.Core.Logic.{_↔_, _≢_}
 use mathlib.Core.List.{List, [], _++_, List·Permᴰ}
 use mathlib.Core.Option.{some}
@@ -62,9 +63,11 @@ pub data FirstFailure (t : List ℕ) : ℕ → ℕ → Type 0 where
 abbrev pub RefusedAtFirst : Type 0
 RefusedAtFirst = (t : List ℕ) (n i : ℕ) → opening t ≡ refused n i → FirstFailure t n i
 
--- "Repeating it changes nothing"
-abbrev pub GroupsRepeat : Type 0
-GroupsRepeat = (b : Book) (g m : ℕ) → withLine (withLine b (group g m)) (group g m) ≡ withLine b (group g m)
+-- "Repeating it changes nothing": what a group line says stays so, and a line that says what is so already leaves the book
+pub record GroupsRepeat : Type 0 where
+  pub said : (b : Book) (g m : ℕ) → withLine b (group g m) .member g m ≡ true
+  pub stays : (b : Book) (l : Line) (g m : ℕ) → b .member g m ≡ true → withLine b l .member g m ≡ true
+  pub repeated : (b : Book) (g m : ℕ) → b .member g m ≡ true → withLine b (group g m) ≡ b
 
 -- ---- Proofs and fairness
 

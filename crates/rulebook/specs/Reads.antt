@@ -10,7 +10,7 @@ use Rattle.rulebook.specs.View.{bookOf}
 use Rattle.rulebook.specs.declared.Tables.{Tables}
 use Rattle.rulebook.specs.declared.Reading.{Reading}
 
--- the tables of the empty text: all zero
+-- tables that are all zero: a book without cards
 abbrev pub noTables : Tables
 noTables = record { cards = 0; digits = replicate 608 0; lengths = replicate 32 0; groups = replicate 256 0; rules = 0; rows = replicate 1_792 0 }
 

@@ -1,13 +1,9 @@
 -- A program's transfers as the model's, and what is told of them.
 use mathlib.Core.Path.{_≡_}
-use mathlib.Core.Bool.{Bool, not, _&&_}
 use mathlib.Core.List.{List, map}
 use Prim.Native.Nat.{ℕ, _/_, _<_}
-use lib.Dec.{eqb}
 use lib.ListN.{length, getD}
 use Rattle.model.specs.Limits.{transferSize, exchangeLimit}
-use Rattle.model.specs.Lists.{within}
-use Rattle.model.specs.Grammar.{isKind}
 use Rattle.model.specs.Transfers.{Transfer, Exchange, exchangeOf, noTransfer}
 use Rattle.transfers.specs.declared.Transfer as declared
 
@@ -28,11 +24,7 @@ transfers e = length e / transferSize
 abbrev pub listSize : ℕ
 listSize = exchangeLimit / transferSize
 
--- question 13 of a transfer, n cards being declared
-abbrev pub isProperOf : ℕ → Transfer → Bool
-isProperOf n t = (within (t .giver) n && within (t .receiver) n) && (not (eqb (t .giver) (t .receiver)) && isKind (t .kind))
-
--- 32 transfers: those of the exchange, then transfers of zeros
+-- 32 transfers: the exchange's first 32, then transfers of zeros
 pub record Listed (e : List ℕ) (list : List declared.Transfer) : Type 0 where
   pub size : length list ≡ listSize
   pub each : (j : ℕ) → j < listSize → transferOf (getD list j zeros) ≡ getD (exchangeOf e) j noTransfer

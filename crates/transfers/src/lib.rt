@@ -5,7 +5,8 @@ ghost use lib.ListN.{take, getD};
 ghost use Rattle.model.specs.Lists.{firstFailing};
 ghost use Rattle.model.specs.Transfers as model;
 ghost use Rattle.model.specs.Transfers.{count, exchangeOf, noTransfer};
-ghost use Rattle.transfers.specs.View.{transferOf, transfersOf, transfers, listSize, isProperOf, Listed};
+ghost use Rattle.transfers.specs.View.{transferOf, transfersOf, transfers, listSize, Listed};
+ghost use Rattle.model.specs.Fairness.{isProperOf};
 
 const TRANSFER_SIZE: usize = limits::TRANSFER_SIZE as usize;
 

@@ -7,7 +7,7 @@ use mathlib.Core.Path.{_≡_, sym, _∙_, ap}
 use mathlib.Core.Bool.{true}
 use Rattle.model.specs.Lists.{every, upTo}
 use Rattle.model.specs.Transfers.{transferAt, exchangeOf}
-use Rattle.transfers.specs.View.{isProperOf}
+use Rattle.model.specs.Fairness.{isProperOf}
 use Rattle.model.proofs.Loops.{every-more, failing-end, failing-stop}
 use Rattle.transfers.proofs.Listing.{here}
 use Rattle.transfers.proofs.first_improper.Statement.{statement}
