@@ -24,12 +24,10 @@ fn finish(cards: u8, holdings: &mut [u32; 512], exchange: &[u8], n: usize) -> An
     if !moves::take(&mut next, exchange, n) {
         return Answer::Refused(answers::NOT_COVERED, 0);
     }
-    let count = limits::at_most(cards, limits::CARD_LIMIT) as usize;
-    // Before the receipts too, so that none overflows: a holding past the limit without them is past it with them.
-    if !moves::limited(&next, count) {
+    if !moves::give(&mut next, exchange, n) {
         return Answer::Refused(answers::HOLDING_EXCEEDED, 0);
     }
-    moves::give(&mut next, exchange, n);
+    let count = limits::at_most(cards, limits::CARD_LIMIT) as usize;
     if !moves::limited(&next, count) {
         return Answer::Refused(answers::HOLDING_EXCEEDED, 0);
     }
