@@ -1,4 +1,7 @@
 // What calls answer, and the names of document 01's refusal numbers.
+ghost use mathlib.Core.Path.{_≡_};
+ghost use Rattle.model.specs.Questions.{done};
+ghost use Rattle.answers.specs.View.{answerOf, replyOf};
 
 // Done, or refused with a number and a place: a line, a transfer or a record, numbered from 1, or 0.
 pub enum Answer {
@@ -11,6 +14,16 @@ pub enum Reply {
     Done,
     Holding(u32),
     Refused(u8, u32),
+}
+
+// An answer as the reply of a call that tells no more.
+pub fn told(answer: Answer) -> Reply
+    ensures { λ r. ⌜ replyOf r ≡ answerOf done answer ⌝ }
+{
+    match answer {
+        Answer::Done => Reply::Done,
+        Answer::Refused(number, place) => Reply::Refused(number, place),
+    }
 }
 
 // Opening

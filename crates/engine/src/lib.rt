@@ -2,10 +2,7 @@
 //
 // Each call takes any engine and any arguments, and returns its answer and the engine afterwards; a refused call returns the engine
 // that it was given.
-ghost use mathlib.Core.Path.{_≡_};
-ghost use Rattle.model.specs.Questions.{done};
 ghost use Rattle.model.specs.Calls.{issue, redeem, query, settle};
-ghost use Rattle.answers.specs.View.{answerOf, replyOf};
 ghost use Rattle.engine.specs.Contracts.{Opens, Answers};
 use answers::Answer;
 use answers::Reply;
@@ -86,16 +83,6 @@ pub fn holding(engine: Engine, card: u32, kind: u32) -> Called
     Called { reply, engine }
 }
 
-// An answer as a reply.
-fn told(answer: Answer) -> Reply
-    ensures { λ r. ⌜ replyOf r ≡ answerOf done answer ⌝ }
-{
-    match answer {
-        Answer::Done => Reply::Done,
-        Answer::Refused(number, place) => Reply::Refused(number, place),
-    }
-}
-
 // The engine afterwards is put together from the tables and the holdings as they are then, moved or not, so that no engine is copied
 // whole beside them.
 pub fn settle(engine: Engine, exchange: &[u8], proof: &[u8]) -> Called
@@ -117,7 +104,7 @@ pub fn settle(engine: Engine, exchange: &[u8], proof: &[u8]) -> Called
         proof,
     );
     Called {
-        reply: told(answer),
+        reply: answers::told(answer),
         engine: Engine {
             holdings,
             cards: engine.cards,

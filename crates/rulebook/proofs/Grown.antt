@@ -14,7 +14,7 @@ use Rattle.model.specs.Grammar.{card, group, rule}
 use Rattle.model.specs.Book.{noBook}
 use Rattle.model.specs.Opening.{withLine}
 use Rattle.model.proofs.Tests.{within-true, and-false-right, or-true-right, or-false-right}
-use Rattle.model.proofs.Places.{upTo-more, upTo-cong, upTo-length, upTo-at, zeros}
+use Rattle.model.proofs.Places.{upTo-more, upTo-cong, upTo-length, upTo-at, all-equal}
 use Rattle.rulebook.specs.View.{cardView, memberView, ruleView, rowAt, bookFrom, bookOf}
 use Rattle.rulebook.specs.Reads.{noTables}
 use Rattle.rulebook.specs.Lines.{tables}
@@ -145,4 +145,4 @@ pub no-tables : bookOf noTables ≡ noBook
 unfolding bookFrom memberView
 no-tables =
     ap (λ (f : ℕ → ℕ → Bool). record { cards = []; member = f; rules = [] })
-    (fun-ext (λ g. fun-ext (λ m. rw (zeros 256 ((m - 1) * 8 + (g - 1))) (and-false-right (within g 8 && within m 32)))))
+    (fun-ext (λ g. fun-ext (λ m. rw (all-equal {A = ℕ} 0 256 ((m - 1) * 8 + (g - 1))) (and-false-right (within g 8 && within m 32)))))

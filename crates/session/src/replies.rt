@@ -1,5 +1,4 @@
 // A line answered: the command that it is, performed over the tables and the holdings, and its answer printed.
-use answers::Answer;
 use answers::Reply;
 use commands::Command;
 use commands::Words;
@@ -47,10 +46,7 @@ fn settle<'a>(
         &exchange[..n],
         &proof[..m],
     );
-    match answer {
-        Answer::Done => Reply::Done,
-        Answer::Refused(number, place) => Reply::Refused(number, place),
-    }
+    answers::told(answer)
 }
 
 // The line's answer at the start of a lent buffer: how many bytes it is.

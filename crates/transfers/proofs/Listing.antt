@@ -6,12 +6,12 @@ use mathlib.Core.Logic.{⊎-elim}
 use Prim.Native.Nat.{ℕ, zero, suc, _+_, _≤_, _<_, min}
 use native.Mathlib.Omega.{arith}
 use native.Mathlib.Nat.{eq-or-lt-of-le}
-use lib.ListN.{length, getD, set, take, replicate, length-set, length-replicate, getD-replicate, List·getD-eq-default}
+use lib.ListN.{length, getD, set, take, replicate, length-set, length-replicate, List·getD-eq-default}
 use lib.Seq.{take-length, take-suc, getD-set-same, getD-set-other}
 use Rattle.model.specs.Limits.{exchangeLimit}
 use Rattle.model.specs.Lists.{upTo}
 use Rattle.model.specs.Transfers.{Transfer, same, count, transferAt, exchangeOf, noTransfer}
-use Rattle.model.proofs.Places.{upTo-length, upTo-at, upTo-cong}
+use Rattle.model.proofs.Places.{all-equal, upTo-length, upTo-at, upTo-cong}
 use Rattle.model.proofs.Loops.{count-more, occurs-at}
 use Rattle.model.proofs.Counting.{count-le}
 use Rattle.model.proofs.Tests.{lt-or-ge}
@@ -73,13 +73,6 @@ module _ (xs : List declared.Transfer) where
 
 -- ---- the loop that reads, i transfers being read
 
-all-zeros : (j : ℕ) → getD (replicate 32 zeros) j zeros ≡ zeros
-all-zeros j =
-    ⊎-elim
-    (λ (l : j < 32). getD-replicate 32 j zeros zeros l)
-    (λ (l : 32 ≤ j). List·getD-eq-default (replicate 32 zeros) zeros {n = j} (omega (arith, length-replicate {A = declared.Transfer} 32 zeros)))
-    (lt-or-ge j 32)
-
 module _ (e : List ℕ) where
   -- 32 transfers, of which those before i are the exchange's and the others zeros
   pub record Begun (i : ℕ) (xs : List declared.Transfer) : Type 0 where
@@ -91,7 +84,7 @@ module _ (e : List ℕ) where
   begun-none = record {
     size = length-replicate {A = declared.Transfer} 32 zeros;
     each = λ j l. absurd (omega arith);
-    rest = λ j l. ap transferOf (all-zeros j);
+    rest = λ j l. ap transferOf (all-equal zeros 32 j);
   }
 
   pub begun-more : (xs : List declared.Transfer) (i : ℕ) → Begun i xs → (x : declared.Transfer) → transferOf x ≡ getD (exchangeOf e) i noTransfer → i < 32

@@ -1,8 +1,6 @@
 -- Both words' bytes fit into their buffers, so that the settlement is that of the line.
-use mathlib.Core.Path.{ap}
+use mathlib.Core.Path.{sym}
 use borrow.Author.Needs.{needs}
-use Rattle.model.specs.Questions.{done}
-use Rattle.answers.specs.View.{answerOf}
 use Rattle.commands.proofs.Buffers.{filled-count}
 use Rattle.session.proofs.Answering.{performed-words}
 use Rattle.session.proofs.replies.settle.Statement.{statement}
@@ -16,21 +14,12 @@ slice-aggregate-settle-2 c = filled-count (c .before .before .before .before .un
 
 returns : tie.Need-returns
 returns c =
-    let settled = c .before .before .settle in
-    let second = c .before .before .before .before .before .before .before in
+    let settled = c .before .settle in
+    let second = c .before .before .before .before .before .before in
     let first = second .before .before .before .before in
     let start = first .before .before .before .before .before .before in
     performed-words _ _ _ _ _ _ (start .args .line .now) (start .args .words .exchange) (start .args .words .proof) _ _ _ _ _ _ _ _ _ (start .pre .0) (search needs) (search needs)
-    (first .unhex .ensures) (second .unhex2 .ensures) (ap (answerOf done) (c .enum-told .given .1)) (settled .ensures)
-
-returns-2 : tie.Need-returns-2
-returns-2 c =
-    let settled = c .before .before .before .settle in
-    let second = c .before .before .before .before .before .before .before .before in
-    let first = second .before .before .before .before in
-    let start = first .before .before .before .before .before .before in
-    performed-words _ _ _ _ _ _ (start .args .line .now) (start .args .words .exchange) (start .args .words .proof) _ _ _ _ _ _ _ _ _ (start .pre .0) (search needs) (search needs)
-    (first .unhex .ensures) (second .unhex2 .ensures) (ap (answerOf done) (c .before .answer .given .1)) (settled .ensures)
+    (first .unhex .ensures) (second .unhex2 .ensures) (sym (c .told .ensures)) (settled .ensures)
 
 pub settle-spec : {M : Type 1} → statement M
 settle-spec =
@@ -51,7 +40,5 @@ settle-spec =
     (λ c. search needs)
     slice-aggregate-settle-2
     (λ c κs. search needs)
-    (λ c. search needs)
-    (λ c. search needs)
-    returns
-    returns-2)
+    (λ c κs. search needs)
+    returns)

@@ -2,9 +2,9 @@
 use mathlib.Core.Path.{sym, ap}
 use borrow.Author.Needs.{needs}
 use Rattle.model.specs.Questions.{done}
 use Rattle.answers.specs.View.{answerOf}
-use Rattle.engine.proofs.told.Statement.{statement}
-use Rattle.engine.proofs.told.Tie as tie
+use Rattle.answers.proofs.told.Statement.{statement}
+use Rattle.answers.proofs.told.Tie as tie
 
 returns-2 : tie.Need-returns-2
 returns-2 c = sym (ap (answerOf done) (c .before .answer .given .1))
