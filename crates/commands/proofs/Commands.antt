@@ -12,6 +12,7 @@ use lib.ListN.{length, getD, take, drop, length-append}
 use lib.Seq.{take-append-seam, drop-append-add, split-at}
 use borrow.Author.Tests.{eqb-true, ne-eqb, lt-ltb, ltb-true}
 use Rattle.model.specs.Lists.{every, until, each, isByte}
+use Rattle.model.proofs.Places.{until-there}
 use Rattle.model.specs.Reader.{digitOf}
 use Rattle.model.specs.Calls.{Call, issue, redeem, query, settle}
 use Rattle.model.proofs.Tests.{T-eq, eq-T, and, both, every-map}
@@ -113,16 +114,6 @@ module _ {A B : Type 0} where
   step none f b e = never (cc)
   step (some a) f b e = record { value = a; is = refl; then = e }
 
-space-there : (s : List ℕ) → until (code " ") s < length s → getD s (until (code " ") s) 0 ≡ code " "
-unfolding until
-space-there [] l = absurd (omega arith)
-space-there (x ∷ s) l = go (eqb x (code " ")) refl l (space-there s)
-  where
-    go : (f : Bool) → eqb x (code " ") ≡ f → cond f 0 (suc (until (code " ") s)) < suc (length s) → (until (code " ") s < length s → getD s (until (code " ") s) 0 ≡ code " ")
-        → getD (x ∷ s) (cond f 0 (suc (until (code " ") s))) 0 ≡ code " "
-    go true e l h = eqb-true x (code " ") e
-    go false e l h = h (omega arith)
-
 -- a word that is cut off, with its space and what stands behind it
 cut-back : (s : List ℕ) (c : Cut) → firstWord s ≡ some c → c .word ++ (code " " ∷ c .rest) ≡ s
 unfolding firstWord
@@ -136,7 +127,7 @@ cut-back s c = go (ltb (until (code " ") s) (length s)) refl
     go true e h =
         let l = ltb-true n (length s) e in
         let z : record { word = take n s; rest = drop (n + 1) s } ≡ c = cc in
-        rw (← z, add-one n) (ap (λ (x : ℕ). take n s ++ (x ∷ drop (suc n) s)) (sym (space-there s l)) ∙ sym (split-at s n 0 l))
+        rw (← z, add-one n) (ap (λ (x : ℕ). take n s ++ (x ∷ drop (suc n) s)) (sym (until-there (code " ") s l)) ∙ sym (split-at s n 0 l))
     go false e h = never (cc)
 
 number-back : (s : List ℕ) (m : Numbered) → firstNumber s ≡ some m → (decimal (m .value) ++ (code " " ∷ m .rest) ≡ s) × (m .value ≤ numberMost)

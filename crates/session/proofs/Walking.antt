@@ -5,12 +5,12 @@ use mathlib.Core.List.{List, [], _∷_, _++_, append-nil}
 use Prim.Native.Char.{code}
 use Prim.Native.Nat.{ℕ, suc, _+_, _-_, _*_, _≤_, _<_, max}
 use native.Mathlib.Omega.{arith}
-use lib.Dec.{T, eqb, eqb→eq}
+use lib.Dec.{T, eqb}
 use lib.ListN.{length, getD, take, drop, length-take, length-drop, take-append-drop}
 use lib.Seq.{take-suc, take-all, take-add}
 use Rattle.model.specs.Limits.{lineLimit}
 use Rattle.model.specs.Lists.{until, ascii}
-use Rattle.model.proofs.Tests.{eq-T}
+use Rattle.model.proofs.Places.{until-there}
 use Rattle.model.specs.Reader.{hasNoLF}
 use Rattle.accounts.specs.View.{stateFrom}
 use Rattle.rulebook.specs.View.{bookFrom}
@@ -31,16 +31,6 @@ until-plain (x ∷ s) = go (eqb x (code "\n")) refl (until-plain s)
     go true e h = tt
     go false e h = rw e h
 
-until-there : (s : List ℕ) → until (code "\n") s < length s → getD s (until (code "\n") s) 0 ≡ code "\n"
-unfolding until
-until-there [] l = absurd (omega arith)
-until-there (x ∷ s) l = go (eqb x (code "\n")) refl l (until-there s)
-  where
-    go : (t : Bool) → eqb x (code "\n") ≡ t → cond t 0 (suc (until (code "\n") s)) < suc (length s) → (until (code "\n") s < length s → getD s (until (code "\n") s) 0 ≡ code "\n")
-        → getD (x ∷ s) (cond t 0 (suc (until (code "\n") s))) 0 ≡ code "\n"
-    go true e l r = eqb→eq x (code "\n") (eq-T e)
-    go false e l r = r (omega arith)
-
 -- from a place on to the next LF
 module _ (block : List ℕ) (at end : ℕ) (ends : end ≡ at + until (code "\n") (drop at block)) where
   part-is : end - at ≡ until (code "\n") (drop at block)
@@ -55,7 +45,7 @@ module _ (block : List ℕ) (at end : ℕ) (ends : end ≡ at + until (code "\n"
       let u = until (code "\n") (drop at block) in
       let n : end + 1 ≡ at + suc u = omega arith in
       let m : u < length (drop at block) = omega (arith, length-drop at block) in
-      rw (n, take-add at (suc u) block, take-suc (drop at block) u 0 m, until-there (drop at block) m, part-is)
+      rw (n, take-add at (suc u) block, take-suc (drop at block) u 0 m, until-there (code "\n") (drop at block) m, part-is)
 
   -- no LF is left
   rest-plain : length block ≤ end → T (hasNoLF (drop at block))
