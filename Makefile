@@ -18,7 +18,7 @@ fuzz: lib
 # The till's library, ringswap and the engine's calls beside plain Rust: docs/BENCHMARKS.md. Blocks that are jumped to are aligned, since
 # plain Rust's short loops take up to twice the time where the linker happens to put them across a line of the cache.
 bench: lib
-	@tests/build ringswap repeats
+	@tests/build ringswap bench_calls
 	@cargo build --offline --quiet --release --manifest-path tests/reference/Cargo.toml
 	@RUSTFLAGS="-C llvm-args=-align-all-nofallthru-blocks=5" cargo build --offline --quiet --release --manifest-path bench/Cargo.toml
 	@bench/target/release/bench

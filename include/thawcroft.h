@@ -3,16 +3,16 @@
  *
  * Link with libtill.a (make lib), which needs nothing but the C library. The archive is for x86-64 Linux.
  *
- * Rule text: ASCII lines, each ended by LF, words one space apart. Cards and rules are numbered from 1 as they stand.
+ * Rule text: ASCII lines, each ended by LF, words one space apart. Cards and rules are numbered from 1 in the order of their lines.
  *   C digits      a card: 12 to 19 digits, the last of them the Luhn check digit
  *   G g m         card m is in group g, 1 to 8
- *   R m K v       card m gives one token of kind K, A to P, to the card for v, a variable a to h. On the same line, each behind a space,
+ *   R m K v       card m gives one token of kind K, A to P, to the card for v, a variable a to h. On the same line, each after a space,
  *                 follow up to four prices and then up to four conditions; the rule serves where every price is a transfer of the
  *                 exchange and every condition holds:
  *     < w K y       the card for the variable w gives one token of kind K to y, another variable or * for card m
  *     ? g z         z, a variable or *, is in group g
  *     = y z         the cards y and z, variables or *, have the same first six digits
- *   m is 1 to 99 without a leading zero, and its C line stands above.
+ *   m is 1 to 99 without a leading zero, and its C line is above.
  * Exchange: 1 to 32 transfers of three bytes, giver, kind (A is 1, P is 16) and receiver.
  * Proof: records of twelve bytes, numbered from 1: the next record, the transfer claimed (from 1), the rule used, 0, and the cards for a to h
  *   (0 where the rule does not use the variable). The chain starts at record 1, claims each transfer once, and ends with a next of 0.
@@ -31,7 +31,7 @@ extern "C" {
 /* Raised when an answer's meaning changes. */
 #define THAWCROFT_VERSION 1
 
-/* 32 cards by 16 kinds. Card m's holding of kind k (A is 1, P is 16) stands at (m - 1) * 16 + k - 1. */
+/* 32 cards by 16 kinds. Card m's holding of kind k (A is 1, P is 16) is at (m - 1) * 16 + k - 1. */
 #define THAWCROFT_HOLDING_COUNT 512
 
 /* What the call answers. */
@@ -44,7 +44,7 @@ enum thawcroft_answer {
     THAWCROFT_NO_FORM = 2,         /* a line has none of the three forms, or no LF */
     THAWCROFT_TOO_MANY_CARDS = 3,  /* a 33rd card */
     THAWCROFT_BAD_CARD_NUMBER = 4, /* not 12 to 19 digits, or a wrong check digit */
-    THAWCROFT_CARD_REPEATED = 5,   /* a card that stands above, digit for digit */
+    THAWCROFT_CARD_REPEATED = 5,   /* a card that is above, digit for digit */
     THAWCROFT_CARD_NOT_ABOVE = 6,  /* a group or a rule of a card that is not declared above */
     THAWCROFT_TOO_MANY_RULES = 7,  /* a 57th rule */
 
@@ -69,10 +69,10 @@ enum thawcroft_answer {
 /*
  * Answers 0, or the number of the first question, in the order 1 to 7, 24, 12 to 23, that is answered no.
  * On 0 the holdings are rewritten, all 512; on any other answer each of the lent numbers is as it was. No state is kept between
- * calls, nothing is allocated (the call takes 11 KB of stack), and two threads may call it at once with holdings of their own.
+ * calls, nothing is allocated (the call takes 9 KB of stack), and two threads may call it at once with holdings of their own.
  *
  * Each slice is a pointer and a length: bytes for text, exchange and proof, without a NUL at the end; for the holdings numbers, 512 and not
- * their size in bytes. The pointer of an empty slice may be NULL. The caller sees to it that each pointer has so many elements behind it, that the
+ * their size in bytes. The pointer of an empty slice may be NULL. The caller sees to it that each pointer is to so many elements, that the
  * holdings are aligned as uint32_t are (they are in the machine's byte order) and overlap none of the other slices, and that during the call
  * nobody else reads or writes the holdings or writes the others, which may overlap each other.
  */

@@ -41,13 +41,13 @@ fn rows() -> Vec<Row> {
         ),
         row(
             "rules-8",
-            "5 KB of rules, 8 transfers, settled",
+            "4 KB of rules, 8 transfers, settled",
             large::unfilled(8),
             0,
         ),
         row(
             "rules-32",
-            "5 KB of rules, 32 transfers, settled",
+            "4 KB of rules, 32 transfers, settled",
             large::unfilled(32),
             0,
         ),
@@ -182,7 +182,7 @@ pub fn bench() -> Result<(), String> {
     let of = |name| times.iter().find(|(row, _)| *row == name);
     for (few, many, about) in [
         ("8", "32", "16 KB"),
-        ("rules-8", "rules-32", "5 KB of rules"),
+        ("rules-8", "rules-32", "4 KB of rules"),
     ] {
         if let (Some((_, few)), Some((_, many))) = (of(few), of(many)) {
             let [ours, plain] = [0, 1].map(|side| many[side] / few[side]);

@@ -1,4 +1,4 @@
-//! The engine's calls, over and over in one process: the program `repeats` beside the second engine, and beside a copy of the engine.
+//! The engine's calls, over and over in one process: the program `bench_calls` beside the second engine, and beside a copy of the engine.
 
 use crate::calls::ring_of_three;
 use crate::median;
@@ -12,14 +12,14 @@ use till_host::cases::Case;
 use till_host::large;
 
 /// From the repository's folder.
-const PROGRAM: &str = "target/bin/repeats";
+const PROGRAM: &str = "target/bin/bench_calls";
 /// How often it makes each call that is timed.
 const REPEATS: u32 = 100_000;
 /// Runs of each side of a row.
 const RUNS: usize = 21;
 
 /// The engine's bytes.
-const ENGINE: usize = 4740;
+const ENGINE: usize = 4796;
 
 #[derive(Clone)]
 enum Call {

@@ -1,6 +1,6 @@
 /*
  * A till host: the ring of document 01, and a call for each refusal. Every case checks the answer and every number of the
- * holdings, with a number before and behind them; one line each. Exit status 1 where one fails.
+ * holdings, with a number before and after them; one line each. Exit status 1 where one fails.
  */
 #include <stdio.h>
 #include <string.h>
@@ -9,7 +9,7 @@
 
 enum { COUNT = THAWCROFT_HOLDING_COUNT, SUM_LIMIT = 1000000000, TEXT_ROOM = 20000 };
 
-/* What stands around the lent holdings and must stay. */
+/* What surrounds the lent holdings and must stay. */
 static const uint32_t GUARD = 0xa5a5a5a5;
 
 static const char BOOK[] =

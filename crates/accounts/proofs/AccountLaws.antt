@@ -8,7 +8,7 @@ use native.Mathlib.Omega.{arith}
 use lib.Dec.{eqb, leb, eqb→eq}
 use lib.ListN.{length, getD, set, length-set}
 use borrow.Author.Tests.{le-leb, lt-leb}
-use Rattle.model.specs.Limits.{cardLimit, kindCount, sumLimit}
+use Rattle.model.specs.Limits.{cardLimit, kindCount, sumLimit, holdingCount}
 use Rattle.model.specs.Lists.{within}
 use Rattle.model.specs.Questions as model
 use Rattle.model.specs.Questions.{Question, _unless_, inOrder}
@@ -17,12 +17,13 @@ use Rattle.model.specs.Holdings.{total, sumTo}
 use Rattle.model.specs.Calls.{Call, issue, redeem, query, accountQuestions, amount, changed, replyTo, after}
 use Rattle.model.proofs.Tests.{eq-T, never-true, eqb-same, within-true, true-within}
 use Rattle.model.proofs.Sums.{sum-same, sum-zero, sum-part}
-use Rattle.accounts.specs.Answered.{Declares, Answered}
-use Rattle.accounts.specs.Refusal.{accountRefusal}
+use Rattle.accounts.specs.Answered.{Answered, Declares, AnsweredFor}
+use Rattle.accounts.specs.inner.Ranged.{Ranged}
+use Rattle.accounts.specs.inner.Refusal.{accountRefusal}
 use Rattle.answers.specs.View.{replyOf}
 use Rattle.answers.specs.declared.Reply.{Reply}
 use Rattle.answers.specs.declared.Reply.the-variants.{Done, Holding, Refused}
-use Rattle.accounts.specs.View.{Ranged, indexOf, stateFrom}
+use Rattle.accounts.specs.View.{placeOf, stateFrom}
 use Rattle.accounts.proofs.HoldingPlaces.{held-at, held-set}
 
 -- ---- questions 8 and 9
@@ -77,19 +78,19 @@ module _ (n : ℕ) (b : Book) (few : Declares n b) where
 
 -- ---- what a call leaves
 
-module _ (n : ℕ) (h : List ℕ) (call : Call) where
+module _ (b : Book) (h : List ℕ) (call : Call) where
   -- a refused call leaves the holdings as they were
-  refuses : (q i : ℕ) → ((b : Book) → Declares n b → replyTo b (stateFrom h) call ≡ model.refused q i) → Answered n h call (Refused q i) h
+  refuses : (q i : ℕ) → replyTo b (stateFrom h) call ≡ model.refused q i → Answered b h call (Refused q i) h
   unfolding after
-  refuses q i f = record { answers = λ b l. sym (f b l); state = λ b l s. rw (f b l); size = refl; refused = λ k. refl }
+  refuses q i f = record { answers = sym f; state = rw f; size = refl; refused = λ k. refl }
 
   -- a call that is not refused leaves those that it makes
-  leaves : (t : model.Told) (r : Reply) (h′ : List ℕ) → replyOf r ≡ model.ok t → ((b : Book) → Declares n b → replyTo b (stateFrom h) call ≡ model.ok t)
-      → (length h ≡ 512 → (d j : ℕ) → stateFrom h′ .held d j ≡ changed (stateFrom h) call .held d j) → length h′ ≡ length h → Answered n h call r h′
+  leaves : (t : model.Told) (r : Reply) (h′ : List ℕ) → replyOf r ≡ model.ok t → replyTo b (stateFrom h) call ≡ model.ok t
+      → ((d j : ℕ) → stateFrom h′ .held d j ≡ changed (stateFrom h) call .held d j) → length h′ ≡ length h → Answered b h call r h′
   unfolding after
   leaves t r h′ e f s l = record {
-    answers = λ b m. e ∙ sym (f b m);
-    state = λ b m z. (λ i. record { held = λ d j. s z d j i }) ∙ rw (f b m);
+    answers = e ∙ sym f;
+    state = (λ i. record { held = λ d j. s d j i }) ∙ rw f;
     size = l;
     refused = λ k. absurd (rw e at k);
   }
@@ -118,66 +119,66 @@ module _ (n : ℕ) (h : List ℕ) (c k : ℕ) where
   holdingQuestion m = (11 unless leb m (stateFrom h .held c k)) ∷ []
 
   module _ (q : ℕ) (f : q ≡ accountRefusal n c k) (z : q ≡ 0 → ⊥) where
-    pub issue-unknown : (m : ℕ) → Answered n h (issue c k m) (Refused q 0) h
+    pub issue-unknown : (m : ℕ) → AnsweredFor n h (issue c k m) (Refused q 0) h
     unfolding replyTo
-    issue-unknown m = refuses n h (issue c k m) q 0 (λ b l. account-refuses n b l c k (sumQuestion m) (model.ok model.done) q f z)
+    issue-unknown m b l = refuses b h (issue c k m) q 0 (account-refuses n b l c k (sumQuestion m) (model.ok model.done) q f z)
 
-    pub redeem-unknown : (m : ℕ) → Answered n h (redeem c k m) (Refused q 0) h
+    pub redeem-unknown : (m : ℕ) → AnsweredFor n h (redeem c k m) (Refused q 0) h
     unfolding replyTo
-    redeem-unknown m = refuses n h (redeem c k m) q 0 (λ b l. account-refuses n b l c k (holdingQuestion m) (model.ok model.done) q f z)
+    redeem-unknown m b l = refuses b h (redeem c k m) q 0 (account-refuses n b l c k (holdingQuestion m) (model.ok model.done) q f z)
 
-    pub query-unknown : Answered n h (query c k) (Refused q 0) h
+    pub query-unknown : AnsweredFor n h (query c k) (Refused q 0) h
     unfolding replyTo
-    query-unknown = refuses n h (query c k) q 0 (λ b l. account-refuses n b l c k [] (model.ok (model.holding (stateFrom h .held c k))) q f z)
+    query-unknown b l = refuses b h (query c k) q 0 (account-refuses n b l c k [] (model.ok (model.holding (stateFrom h .held c k))) q f z)
 
   module _ (a : Account n c k) where
-    here : stateFrom h .held c k ≡ getD h (indexOf c k) 0
+    here : stateFrom h .held c k ≡ getD h (placeOf c k) 0
     here = held-at h c k (a .ranged)
 
-    pub query-told : Answered n h (query c k) (Holding (getD h (indexOf c k) 0)) h
+    pub query-told : AnsweredFor n h (query c k) (Holding (getD h (placeOf c k) 0)) h
     unfolding replyTo
-    query-told =
-        leaves n h (query c k) (model.holding (stateFrom h .held c k)) (Holding (getD h (indexOf c k) 0)) h
+    query-told b l =
+        leaves b h (query c k) (model.holding (stateFrom h .held c k)) (Holding (getD h (placeOf c k) 0)) h
         (ap (λ (x : ℕ). model.ok (model.holding x)) (sym here))
-        (λ b l. account-passes n b l c k [] (model.ok (model.holding (stateFrom h .held c k))) a)
-        (λ l d j. omega arith) refl
+        (account-passes n b l c k [] (model.ok (model.holding (stateFrom h .held c k))) a)
+        (λ d j. refl) refl
 
     module _ (m : ℕ) where
-      pub issue-exceeds : sumLimit < total (stateFrom h) k + m → Answered n h (issue c k m) (Refused 10 0) h
+      pub issue-exceeds : sumLimit < total (stateFrom h) k + m → AnsweredFor n h (issue c k m) (Refused 10 0) h
       unfolding replyTo
-      issue-exceeds l =
-          refuses n h (issue c k m) 10 0 (λ b z.
-          account-passes n b z c k (sumQuestion m) (model.ok model.done) a ∙ rw (lt-leb (total (stateFrom h) k + m) sumLimit l))
+      issue-exceeds o b l =
+          refuses b h (issue c k m) 10 0
+          (account-passes n b l c k (sumQuestion m) (model.ok model.done) a ∙ rw (lt-leb (total (stateFrom h) k + m) sumLimit o))
 
-      pub redeem-short : getD h (indexOf c k) 0 < m → Answered n h (redeem c k m) (Refused 11 0) h
+      pub redeem-short : getD h (placeOf c k) 0 < m → AnsweredFor n h (redeem c k m) (Refused 11 0) h
       unfolding replyTo
-      redeem-short l =
-          refuses n h (redeem c k m) 11 0 (λ b z.
-          account-passes n b z c k (holdingQuestion m) (model.ok model.done) a ∙ rw (here, lt-leb m (getD h (indexOf c k) 0) l))
+      redeem-short o b l =
+          refuses b h (redeem c k m) 11 0
+          (account-passes n b l c k (holdingQuestion m) (model.ok model.done) a ∙ rw (here, lt-leb m (getD h (placeOf c k) 0) o))
 
-      -- the holding there becomes v, and the call makes just that of it
-      stored : (call : Call) (v : ℕ) → ((b : Book) → Declares n b → replyTo b (stateFrom h) call ≡ model.ok model.done)
-          → v ≡ changed (stateFrom h) call .held c k
-          → ((d j : ℕ) → (eqb c d && eqb k j) ≡ false → stateFrom h .held d j ≡ changed (stateFrom h) call .held d j)
-          → Answered n h call Done (set h (indexOf c k) v)
-      stored call v f e g =
-          leaves n h call model.done Done (set h (indexOf c k) v) refl f
-          (λ l d j. held-set h c k v l (a .ranged) d j ∙ at-one (stateFrom h .held) (changed (stateFrom h) call .held) c k v e g d j)
-          (length-set h (indexOf c k) v)
+      module _ (long : length h ≡ holdingCount) where
+        -- the holding there becomes v, and the call makes just that of it
+        stored : (b : Book) (call : Call) (v : ℕ) → replyTo b (stateFrom h) call ≡ model.ok model.done → v ≡ changed (stateFrom h) call .held c k
+            → ((d j : ℕ) → (eqb c d && eqb k j) ≡ false → stateFrom h .held d j ≡ changed (stateFrom h) call .held d j)
+            → Answered b h call Done (set h (placeOf c k) v)
+        stored b call v f e g =
+            leaves b h call model.done Done (set h (placeOf c k) v) refl f
+            (λ d j. held-set h c k v long (a .ranged) d j ∙ at-one (stateFrom h .held) (changed (stateFrom h) call .held) c k v e g d j)
+            (length-set h (placeOf c k) v)
 
-      pub issue-done : total (stateFrom h) k + m ≤ sumLimit → Answered n h (issue c k m) Done (set h (indexOf c k) (getD h (indexOf c k) 0 + m))
-      unfolding replyTo
-      issue-done l =
-          stored (issue c k m) (getD h (indexOf c k) 0 + m)
-          (λ b z. account-passes n b z c k (sumQuestion m) (model.ok model.done) a ∙ rw (le-leb (total (stateFrom h) k + m) sumLimit l))
-          (omega (arith, here, amount-here c k m)) (λ x y e. omega (arith, amount-elsewhere c k m x y e))
+        pub issue-done : total (stateFrom h) k + m ≤ sumLimit → AnsweredFor n h (issue c k m) Done (set h (placeOf c k) (getD h (placeOf c k) 0 + m))
+        unfolding replyTo
+        issue-done o b l =
+            stored b (issue c k m) (getD h (placeOf c k) 0 + m)
+            (account-passes n b l c k (sumQuestion m) (model.ok model.done) a ∙ rw (le-leb (total (stateFrom h) k + m) sumLimit o))
+            (omega (arith, here, amount-here c k m)) (λ x y e. omega (arith, amount-elsewhere c k m x y e))
 
-      pub redeem-done : m ≤ getD h (indexOf c k) 0 → Answered n h (redeem c k m) Done (set h (indexOf c k) (getD h (indexOf c k) 0 - m))
-      unfolding replyTo
-      redeem-done l =
-          stored (redeem c k m) (getD h (indexOf c k) 0 - m)
-          (λ b z. account-passes n b z c k (holdingQuestion m) (model.ok model.done) a ∙ rw (here, le-leb m (getD h (indexOf c k) 0) l))
-          (omega (arith, here, amount-here c k m)) (λ x y e. omega (arith, amount-elsewhere c k m x y e))
+        pub redeem-done : m ≤ getD h (placeOf c k) 0 → AnsweredFor n h (redeem c k m) Done (set h (placeOf c k) (getD h (placeOf c k) 0 - m))
+        unfolding replyTo
+        redeem-done o b l =
+            stored b (redeem c k m) (getD h (placeOf c k) 0 - m)
+            (account-passes n b l c k (holdingQuestion m) (model.ok model.done) a ∙ rw (here, le-leb m (getD h (placeOf c k) 0) o))
+            (omega (arith, here, amount-here c k m)) (λ x y e. omega (arith, amount-elsewhere c k m x y e))
 
 -- ---- the sum of a kind
 
@@ -195,7 +196,7 @@ pub sum-more : (h : List ℕ) (k sum i w : ℕ) → SumTo h k sum i → i < card
     → SumTo h k (sum + w) (i + 1)
 unfolding sumTo
 sum-more h k sum i w s l p q e m =
-    let at : indexOf (suc i) k ≡ i * kindCount + (k - 1) = omega arith in
+    let at : placeOf (suc i) k ≡ i * kindCount + (k - 1) = omega arith in
     let x = held-at h (suc i) k (record { c-low = omega arith; c-high = omega arith; k-low = p; k-high = q }) in
     record {
       some = omega arith;
@@ -215,7 +216,7 @@ sum-nothing h k f = (sym (sum-same (λ c. stateFrom h .held c k) (λ c. 0) cardL
     none : (c : ℕ) → stateFrom h .held c k ≡ 0
     none c =
         rw (never-true (within k kindCount) (λ e. let w = within-true k kindCount e in f (w .0) (w .1)))
-        (pick (within c cardLimit) (getD h (indexOf c k) 0))
+        (pick (within c cardLimit) (getD h (placeOf c k) 0))
 
 pub sum-all : (h : List ℕ) (k sum i : ℕ) → SumTo h k sum i → cardLimit ≤ i → (sum ≡ total (stateFrom h) k) × (sum < 1099511627776)
 sum-all h k sum i s l =
@@ -223,5 +224,5 @@ sum-all h k sum i s l =
     (s .is ∙ ap (λ (n : ℕ). sumTo (λ c. stateFrom h .held c k) n) e, omega (arith, s .small))
 
 -- a holding is a part of its kind's sum
-pub held-part : (h : List ℕ) (c k : ℕ) → Ranged c k → getD h (indexOf c k) 0 ≤ total (stateFrom h) k
+pub held-part : (h : List ℕ) (c k : ℕ) → Ranged c k → getD h (placeOf c k) 0 ≤ total (stateFrom h) k
 held-part h c k r = rw (← held-at h c k r) (sum-part (λ d. stateFrom h .held d k) cardLimit c (r .c-low) (r .c-high))

@@ -1,2 +1,3 @@
 pub mod HoldingPlaces
+pub mod HoldingNumbers
 pub mod AccountLaws

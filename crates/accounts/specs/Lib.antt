@@ -1,3 +1,3 @@
 pub mod View
 pub mod Answered
-pub mod Refusal
+pub mod inner

@@ -1,13 +1,14 @@
 // Issuing, redeeming and the holding query over the 512 holdings: questions 8 to 11.
 //
-// The holdings are lent and changed in place, so that a call copies none; a refused call changes none.
+// The holdings are lent and changed in place, so that a call copies none; a refused call changes none. A store goes through a slice of
+// them, since a proof knows the length of a slice that is made of an array, and not that of a lent array.
 ghost use mathlib.Core.Path.{_≡_};
-ghost use Prim.Native.Nat.{_<_};
+ghost use Prim.Native.Nat.{_<_, max};
 ghost use Rattle.model.specs.Holdings.{total};
 ghost use Rattle.model.specs.Calls.{issue, redeem, query};
-ghost use Rattle.accounts.specs.View.{indexOf, stateFrom, Ranged};
-ghost use Rattle.accounts.specs.Answered.{Answered};
-ghost use Rattle.accounts.specs.Refusal.{accountRefusal};
+ghost use Rattle.accounts.specs.View.{placeOf, stateFrom};
+ghost use Rattle.accounts.specs.Answered.{AnsweredFor};
+ghost use Rattle.accounts.specs.inner.Refusal.{accountRefusal};
 use answers::Reply;
 
 const CARD_LIMIT: u32 = limits::CARD_LIMIT as u32;
@@ -21,8 +22,8 @@ const KINDS: usize = limits::KIND_COUNT as usize;
 const SUM_LIMIT: u64 = limits::SUM_LIMIT as u64;
 
 // The first of questions 8 and 9 that is answered no, or 0.
-fn account(cards: u8, card: u32, kind: u32) -> u8
-    ensures { λ r. ⌜ r ≡ accountRefusal cards card kind ⌝ }
+fn account(declared: u8, card: u32, kind: u32) -> u8
+    ensures { λ r. ⌜ r ≡ accountRefusal declared card kind ⌝ }
 {
     if card < 1 {
         return answers::CARD_UNDECLARED;
@@ -30,7 +31,7 @@ fn account(cards: u8, card: u32, kind: u32) -> u8
     if CARD_LIMIT < card {
         return answers::CARD_UNDECLARED;
     }
-    if (cards as u32) < card {
+    if (declared as u32) < card {
         return answers::CARD_UNDECLARED;
     }
     if kind < 1 {
@@ -42,12 +43,21 @@ fn account(cards: u8, card: u32, kind: u32) -> u8
     0
 }
 
-// Where the card's holding of the kind stands.
-fn place(card: u32, kind: u32) -> usize
-    requires { ⌜ Ranged card kind ⌝ }
-    ensures { λ r. ⌜ (r ≡ indexOf card kind) × (r < 512) ⌝ }
+// The number, or 1 for 0, so that one can be taken off.
+fn at_least_one(n: u32) -> usize
+    ensures { λ r. ⌜ r ≡ max n 1 ⌝ }
 {
-    (card as usize - 1) * KINDS + (kind as usize - 1)
+    if n < 1 {
+        return 1;
+    }
+    n as usize
+}
+
+// Where the card's holding of the kind is, of any numbers; 0 is taken for 1.
+pub fn place(card: u32, kind: u32) -> usize
+    ensures { λ r. ⌜ r ≡ placeOf card kind ⌝ }
+{
+    (at_least_one(card) - 1) * KINDS + (at_least_one(kind) - 1)
 }
 
 fn wide(x: u32) -> u64
@@ -74,10 +84,10 @@ pub fn kind_sum(holdings: &[u32; 512], kind: u32) -> u64
     sum
 }
 
-pub fn issue(cards: u8, holdings: &mut [u32; 512], card: u32, kind: u32, count: u32) -> Reply
-    ensures { λ r. ⌜ Answered cards (now (holdings .entry)) (issue card kind count) r (now (holdings .exit)) ⌝ }
+pub fn issue(declared: u8, holdings: &mut [u32; 512], card: u32, kind: u32, count: u32) -> Reply
+    ensures { λ r. ⌜ AnsweredFor declared (now (holdings .entry)) (issue card kind count) r (now (holdings .exit)) ⌝ }
 {
-    let refusal = account(cards, card, kind);
+    let refusal = account(declared, card, kind);
     if refusal != 0 {
         return Reply::Refused(refusal, 0);
     }
@@ -85,30 +95,33 @@ pub fn issue(cards: u8, holdings: &mut [u32; 512], card: u32, kind: u32, count: 
     if SUM_LIMIT < sum + count as u64 {
         return Reply::Refused(answers::SUM_EXCEEDED, 0);
     }
+    let all = &mut holdings[..];
     let at = place(card, kind);
-    holdings[at] = holdings[at] + count;
+    all[at] = all[at] + count;
     Reply::Done
 }
 
-pub fn redeem(cards: u8, holdings: &mut [u32; 512], card: u32, kind: u32, count: u32) -> Reply
-    ensures { λ r. ⌜ Answered cards (now (holdings .entry)) (redeem card kind count) r (now (holdings .exit)) ⌝ }
+pub fn redeem(declared: u8, holdings: &mut [u32; 512], card: u32, kind: u32, count: u32) -> Reply
+    ensures { λ r. ⌜ AnsweredFor declared (now (holdings .entry)) (redeem card kind count) r (now (holdings .exit)) ⌝ }
 {
-    let refusal = account(cards, card, kind);
+    let refusal = account(declared, card, kind);
     if refusal != 0 {
         return Reply::Refused(refusal, 0);
     }
+    let all = &mut holdings[..];
     let at = place(card, kind);
-    if holdings[at] < count {
+    let held = all[at];
+    if held < count {
         return Reply::Refused(answers::HOLDING_SHORT, 0);
     }
-    holdings[at] = holdings[at] - count;
+    all[at] = held - count;
     Reply::Done
 }
 
-pub fn holding(cards: u8, holdings: &[u32; 512], card: u32, kind: u32) -> Reply
-    ensures { λ r. ⌜ Answered cards (now (holdings .entry)) (query card kind) r (now (holdings .entry)) ⌝ }
+pub fn holding(declared: u8, holdings: &[u32; 512], card: u32, kind: u32) -> Reply
+    ensures { λ r. ⌜ AnsweredFor declared (now (holdings .entry)) (query card kind) r (now (holdings .entry)) ⌝ }
 {
-    let refusal = account(cards, card, kind);
+    let refusal = account(declared, card, kind);
     if refusal != 0 {
         return Reply::Refused(refusal, 0);
     }

@@ -1,28 +1,28 @@
-// What calls answer, and the names of document 01's refusal numbers.
+// What opening and the calls answer, and the names of document 01's refusal numbers.
 ghost use mathlib.Core.Path.{_≡_};
-ghost use Rattle.model.specs.Questions.{done};
-ghost use Rattle.answers.specs.View.{answerOf, replyOf};
+ghost use Rattle.answers.specs.View.{replyOf, refusalNumber};
 
-// Done, or refused with a number and a place: a line, a transfer or a record, numbered from 1, or 0.
+// What opening a text answers: done, or refused with a number and the line, or 0.
 pub enum Answer {
     Done,
     Refused(u8, u32),
 }
 
-// The same, or a holding, which a query tells.
+// What a call answers: done, a holding that a query tells, or refused with a number and a place: a transfer or a record, from 1, or 0.
 pub enum Reply {
     Done,
     Holding(u32),
     Refused(u8, u32),
 }
 
-// An answer as the reply of a call that tells no more.
-pub fn told(answer: Answer) -> Reply
-    ensures { λ r. ⌜ replyOf r ≡ answerOf done answer ⌝ }
+// A refusal's number; 0 of a call that is not refused.
+pub fn refusal_number(reply: Reply) -> u8
+    ensures { λ r. ⌜ r ≡ refusalNumber (replyOf reply) ⌝ }
 {
-    match answer {
-        Answer::Done => Reply::Done,
-        Answer::Refused(number, place) => Reply::Refused(number, place),
+    match reply {
+        Reply::Done => 0,
+        Reply::Holding(count) => 0,
+        Reply::Refused(number, place) => number,
     }
 }
 

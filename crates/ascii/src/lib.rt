@@ -1,4 +1,4 @@
-// Bytes of a text, as the readers of rule texts and of command lines ask for them.
+// Bytes of texts, tables and proof records: the byte at a place, a digit's value, the place of a byte.
 ghost use mathlib.Core.Path.{_≡_};
 ghost use Prim.Native.Nat.{_+_, _≤_, min, max};
 ghost use lib.ListN.{length, getD, drop};
@@ -58,8 +58,8 @@ fn find_last(text: &[u8], at: usize, wanted: u8) -> usize
     i
 }
 
-// The place of the first wanted byte from a place on, or the text's length; a place past the end is given back. Four bytes a turn
-// take half as long as one.
+// The place of the first wanted byte from a place on, or the text's length; a place past the end is given back. Four bytes a turn, since
+// every byte of a text is passed in seeking its LFs.
 pub fn find(text: &[u8], at: usize, wanted: u8) -> usize
     ensures { λ r. ⌜ (r ≡ at + until wanted (drop at (now (text .entry)))) × (r ≤ max at (length (now (text .entry)))) ⌝ }
 {

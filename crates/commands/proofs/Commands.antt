@@ -4,11 +4,11 @@ use mathlib.Core.Bool.{Bool, true, false, not, _&&_, cond}
 use mathlib.Core.List.{List, [], _∷_, _++_, append-nil}
 use mathlib.Core.Option.{Option, none, some}
 use Prim.Native.Char.{code}
-use Prim.Native.Nat.{ℕ, suc, _+_, _/_, _%_, _≤_, _<_}
+use Prim.Native.Nat.{ℕ, suc, _+_, _/_, _%_, _≤_}
 use native.Mathlib.Omega.{arith}
 use native.Mathlib.Numerals.{add-one}
 use lib.Dec.{T, eqb, leb, ltb, not-T, eqb→eq}
-use lib.ListN.{length, getD, take, drop, length-append}
+use lib.ListN.{length, take, drop, length-append}
 use lib.Seq.{take-append-seam, drop-append-add, split-at}
 use borrow.Author.Tests.{eqb-true, ne-eqb, lt-ltb, ltb-true}
 use Rattle.model.specs.Lists.{every, until, each, isByte}
@@ -19,8 +19,8 @@ use Rattle.model.proofs.Tests.{T-eq, eq-T, and, both, every-map}
 use Rattle.model.proofs.Facts.{facts, never}
 use Rattle.model.specs.Grammar.{decimal}
 use Rattle.model.specs.Limits.{numberMost}
-use Rattle.commands.specs.Grammar.{hexDigit, hexByte, hexadecimal, printCommand, wellFormed}
-use Rattle.commands.specs.Reader.{andThen, isDigit, readNumber, isHexadecimal, bytesOf, Cut, firstWord, Numbered, firstNumber}
+use Rattle.commands.specs.Grammar.{hexDigit, hexByte, hexadecimal, printCommand, wellFormedCall}
+use Rattle.commands.specs.Reader.{thenRead, isDigit, readNumber, isHexadecimal, pairBytes, Split, firstWord, Numbered, firstNumber}
 use Rattle.commands.specs.Reader.{readTwo, readThree, readSettle, readForm, readCommand}
 use Rattle.commands.proofs.Decimals.{decimal-digits, number-printed, number-taken}
 use Rattle.commands.proofs.Pairs.{word-printed, word-taken}
@@ -81,7 +81,7 @@ three-printed : (f : ℕ → ℕ → ℕ → Call) (m k n : ℕ) → m ≤ numbe
     → readThree f (decimal m ++ (code " " ∷ (decimal k ++ (code " " ∷ (decimal n ++ []))))) ≡ some (f m k n)
 three-printed f m k n a b c = three-all f _ _ (number-first m _ a) _ (number-first k _ b) n (number-last n c)
 
-pub printed-read : (c : Call) → T (wellFormed c) → readCommand (printCommand c) ≡ some c
+pub printed-read : (c : Call) → T (wellFormedCall c) → readCommand (printCommand c) ≡ some c
 unfolding readTwo
 printed-read (issue m k n) t =
     let l = simp facts at t in
@@ -110,12 +110,12 @@ module _ {A B : Type 0} where
     pub is : o ≡ some value
     pub then : f value ≡ some b
 
-  step : (o : Option A) (f : A → Option B) (b : B) → andThen o f ≡ some b → Step o f b
+  step : (o : Option A) (f : A → Option B) (b : B) → thenRead o f ≡ some b → Step o f b
   step none f b e = never (cc)
   step (some a) f b e = record { value = a; is = refl; then = e }
 
--- a word that is cut off, with its space and what stands behind it
-cut-back : (s : List ℕ) (c : Cut) → firstWord s ≡ some c → c .word ++ (code " " ∷ c .rest) ≡ s
+-- a word that is cut off, with its space and what follows it
+cut-back : (s : List ℕ) (c : Split) → firstWord s ≡ some c → c .word ++ (code " " ∷ c .rest) ≡ s
 unfolding firstWord
 cut-back s c = go (ltb (until (code " ") s) (length s)) refl
   where
@@ -141,7 +141,7 @@ number-back s m e =
 
 -- what two and three numbers, or two words, print
 abbrev Prints : ℕ → List ℕ → Call → Type 0
-Prints x s c = (printCommand c ≡ x ∷ code " " ∷ s) × T (wellFormed c)
+Prints x s c = (printCommand c ≡ x ∷ code " " ∷ s) × T (wellFormedCall c)
 
 two-back : (s : List ℕ) (c : Call) → readTwo s ≡ some c → Prints (code "H") s c
 unfolding readTwo
@@ -156,7 +156,7 @@ two-back s c e =
 -- three numbers, by their letter
 module _ (x : ℕ) (f : ℕ → ℕ → ℕ → Call) (s : List ℕ) (c : Call)
     (prints : (m k n : ℕ) → printCommand (f m k n) ≡ x ∷ code " " ∷ (decimal m ++ (code " " ∷ (decimal k ++ (code " " ∷ (decimal n ++ []))))))
-    (formed : (m k n : ℕ) → m ≤ numberMost → k ≤ numberMost → n ≤ numberMost → T (wellFormed (f m k n))) where
+    (formed : (m k n : ℕ) → m ≤ numberMost → k ≤ numberMost → n ≤ numberMost → T (wellFormedCall (f m k n))) where
   three-back : readThree f s ≡ some c → Prints x s c
   unfolding readThree
   three-back e =
@@ -173,7 +173,7 @@ settle-back : (s : List ℕ) (c : Call) → readSettle s ≡ some c → Prints (
 unfolding readSettle
 settle-back s c e = go (isHexadecimal w && isHexadecimal r) refl (a .then)
   where
-    a : Step (firstWord s) (λ c. cond (isHexadecimal (c .word) && isHexadecimal (c .rest)) (some (settle (bytesOf (c .word)) (bytesOf (c .rest)))) none) c
+    a : Step (firstWord s) (λ c. cond (isHexadecimal (c .word) && isHexadecimal (c .rest)) (some (settle (pairBytes (c .word)) (pairBytes (c .rest)))) none) c
     a = step (firstWord s) _ c e
 
     w : List ℕ
@@ -182,13 +182,13 @@ settle-back s c e = go (isHexadecimal w && isHexadecimal r) refl (a .then)
     r : List ℕ
     r = a .value .rest
 
-    go : (f : Bool) → (isHexadecimal w && isHexadecimal r) ≡ f → cond f (some (settle (bytesOf w) (bytesOf r))) none ≡ some c → Prints (code "S") s c
+    go : (f : Bool) → (isHexadecimal w && isHexadecimal r) ≡ f → cond f (some (settle (pairBytes w) (pairBytes r))) none ≡ some c → Prints (code "S") s c
     go true t h =
         let g = both (isHexadecimal w) (isHexadecimal r) (eq-T t) in
         let x = word-taken w (g .0) in
         let y = word-taken r (g .1) in
-        let z : settle (bytesOf w) (bytesOf r) ≡ c = cc in
-        rw (← z, append-nil (hexadecimal (bytesOf r)), x .0, y .0, cut-back s (a .value) (a .is)) (refl, and (every isByte (bytesOf w)) _ (x .1) (y .1))
+        let z : settle (pairBytes w) (pairBytes r) ≡ c = cc in
+        rw (← z, append-nil (hexadecimal (pairBytes r)), x .0, y .0, cut-back s (a .value) (a .is)) (refl, and (every isByte (pairBytes w)) _ (x .1) (y .1))
     go false t h = never (cc)
 
 form-back : (x : ℕ) (s : List ℕ) (c : Call) → readForm x s ≡ some c → Prints x s c
@@ -205,12 +205,12 @@ form-back x s c = go (eqb x (code "I")) (eqb x (code "D")) (eqb x (code "H")) (e
     go false false false true e₁ e₂ e₃ e₄ r = rw (eqb-true x (code "S") e₄) (settle-back s c r)
     go false false false false e₁ e₂ e₃ e₄ r = never (cc)
 
-pub read-printed : (w : List ℕ) (c : Call) → readCommand w ≡ some c → (printCommand c ≡ w) × T (wellFormed c)
+pub read-printed : (w : List ℕ) (c : Call) → readCommand w ≡ some c → (printCommand c ≡ w) × T (wellFormedCall c)
 unfolding readCommand
 read-printed [] c e = never (cc)
 read-printed (x ∷ []) c e = never (cc)
 read-printed (x ∷ y ∷ s) c e = go (eqb y (code " ")) refl e
   where
-    go : (f : Bool) → eqb y (code " ") ≡ f → cond f (readForm x s) none ≡ some c → (printCommand c ≡ x ∷ y ∷ s) × T (wellFormed c)
+    go : (f : Bool) → eqb y (code " ") ≡ f → cond f (readForm x s) none ≡ some c → (printCommand c ≡ x ∷ y ∷ s) × T (wellFormedCall c)
     go true e r = rw (eqb-true y (code " ") e) (form-back x s c r)
     go false e r = never (cc)

@@ -10,7 +10,7 @@ use native.Mathlib.Omega.{arith}
 use lib.ListN.{length, getD, drop, List·getD-eq-default}
 use borrow.Author.Tests.{eq-eqb, ne-eqb}
 use Rattle.model.specs.Calls.{Call, issue, redeem, settle}
-use Rattle.commands.specs.Reader.{readNumber, isHexadecimal, bytesOf, Cut, firstWord, Numbered, firstNumber, readTwo, readThree, readSettle, readForm, readCommand}
+use Rattle.commands.specs.Reader.{readNumber, isHexadecimal, pairBytes, Split, firstWord, Numbered, firstNumber, readTwo, readThree, readSettle, readForm, readCommand}
 
 -- ---- three numbers
 
@@ -35,7 +35,7 @@ module _ (f : ℕ → ℕ → ℕ → Call) (s : List ℕ) where
 
 -- ---- two words of hexadecimal
 
-module _ (s : List ℕ) (c : Cut) (is : firstWord s ≡ some c) where
+module _ (s : List ℕ) (c : Split) (is : firstWord s ≡ some c) where
   pub settle-first : isHexadecimal (c .word) ≡ false → readSettle s ≡ none
   unfolding readSettle
   settle-first e = rw (is, e)
@@ -44,7 +44,7 @@ module _ (s : List ℕ) (c : Cut) (is : firstWord s ≡ some c) where
   unfolding readSettle
   settle-second e g = rw (is, e, g)
 
-  pub settle-both : isHexadecimal (c .word) ≡ true → isHexadecimal (c .rest) ≡ true → readSettle s ≡ some (settle (bytesOf (c .word)) (bytesOf (c .rest)))
+  pub settle-both : isHexadecimal (c .word) ≡ true → isHexadecimal (c .rest) ≡ true → readSettle s ≡ some (settle (pairBytes (c .word)) (pairBytes (c .rest)))
   unfolding readSettle
   settle-both e g = rw (is, e, g)
 

@@ -1,5 +1,5 @@
 -- ringswap's command lines and answers, as printers: a command is a call of the model, and a line is a command if it is a printed
--- well-formed call. `Theorems.antt` states that the reader takes these lines and no others. Command lines stand here without their LF, answers with it.
+-- well-formed call. `Theorems.antt` states that the reader takes these lines and no others. Command lines are here without their LF, answers with it.
 use mathlib.Core.Bool.{Bool, _&&_, cond}
 use mathlib.Core.List.{List, [], _∷_, _++_}
 use Prim.Native.Char.{code}
@@ -42,27 +42,31 @@ printCommand c = spaced (commandWords c)
 abbrev pub isNumber : ℕ → Bool
 isNumber n = leb n numberMost
 
-abbrev pub wellFormed : Call → Bool
-wellFormed (issue m k n) = isNumber m && (isNumber k && isNumber n)
-wellFormed (redeem m k n) = isNumber m && (isNumber k && isNumber n)
-wellFormed (query m k) = isNumber m && isNumber k
-wellFormed (settle e p) = every isByte e && every isByte p
+abbrev pub wellFormedCall : Call → Bool
+wellFormedCall (issue m k n) = isNumber m && (isNumber k && isNumber n)
+wellFormedCall (redeem m k n) = isNumber m && (isNumber k && isNumber n)
+wellFormedCall (query m k) = isNumber m && isNumber k
+wellFormedCall (settle e p) = every isByte e && every isByte p
 
 -- ---- answers, each with its LF
 
-abbrev pub answer : List (List ℕ) → List ℕ
-answer ws = spaced ws ++ ascii "\n"
+abbrev pub answerLine : List (List ℕ) → List ℕ
+answerLine ws = spaced ws ++ ascii "\n"
 
 -- "`0 0`, or number and place, or `=` and the holding"
 abbrev pub printReply : Reply → List ℕ
-printReply (ok done) = answer (ascii "0" ∷ ascii "0" ∷ [])
-printReply (ok (holding n)) = answer (ascii "=" ∷ decimal n ∷ [])
-printReply (refused n i) = answer (decimal n ∷ decimal i ∷ [])
+printReply (ok done) = answerLine (ascii "0" ∷ ascii "0" ∷ [])
+printReply (ok (holding n)) = answerLine (ascii "=" ∷ decimal n ∷ [])
+printReply (refused n i) = answerLine (decimal n ∷ decimal i ∷ [])
 
 -- an ill-formed line's answer, and a missing book's
 abbrev pub printBad : List ℕ
-printBad = answer (ascii "bad" ∷ [])
+printBad = answerLine (ascii "bad" ∷ [])
 
 -- "`book` cards rules"
 abbrev pub printBook : ℕ → ℕ → List ℕ
-printBook cards rules = answer (ascii "book" ∷ decimal cards ∷ decimal rules ∷ [])
+printBook cards rules = answerLine (ascii "book" ∷ decimal cards ∷ decimal rules ∷ [])
+
+-- no answer is longer
+abbrev pub answerSize : ℕ
+answerSize = 32

@@ -1,5 +1,5 @@
 -- The reader of a command line by its bytes. It does not have to be believed: `Theorems.antt` states that exactly the printed
--- well-formed commands are read, and are read back. Only `bytesOf` says more, as `unhex` takes any word: what a word gives that is
+-- well-formed commands are read, and are read back. Only `pairBytes` says more, as `unhex` takes any word: what a word gives that is
 -- no hexadecimal.
 --
 -- A place past a line's end has the byte 0, which is in no form.
@@ -16,16 +16,16 @@ use Rattle.model.specs.Calls.{Call, issue, redeem, query, settle}
 use Rattle.model.specs.Limits.{numberMost}
 
 -- what is read goes on; where nothing is, nothing is read
-abbrev pub andThen : {A B : Type 0} → Option A → (A → Option B) → Option B
-andThen none f = none
-andThen (some a) f = f a
+abbrev pub thenRead : {A B : Type 0} → Option A → (A → Option B) → Option B
+thenRead none f = none
+thenRead (some a) f = f a
 
 -- ---- numbers
 
 abbrev pub isDigit : ℕ → Bool
 isDigit x = leb (digitOf x) 9
 
--- the value of digits behind the value v
+-- the value of digits after the value v
 unfoldable pub valueFrom : ℕ → List ℕ → ℕ
 valueFrom v [] = v
 valueFrom v (x ∷ xs) = valueFrom (v * 10 + digitOf x) xs
@@ -48,10 +48,10 @@ unfoldable pub pairOf : ℕ → ℕ → ℕ
 pairOf x y = cond (ltb (hexOf x) 16 && ltb (hexOf y) 16) (hexOf x * 16 + hexOf y) 256
 
 -- the bytes of the pairs of digits up to what is none
-unfoldable pub bytesOf : List ℕ → List ℕ
-bytesOf [] = []
-bytesOf (x ∷ []) = []
-bytesOf (x ∷ y ∷ w) = cond (ltb (pairOf x y) 256) (pairOf x y ∷ bytesOf w) []
+unfoldable pub pairBytes : List ℕ → List ℕ
+pairBytes [] = []
+pairBytes (x ∷ []) = []
+pairBytes (x ∷ y ∷ w) = cond (ltb (pairOf x y) 256) (pairOf x y ∷ pairBytes w) []
 
 -- pairs of digits and nothing else
 unfoldable pub isPairs : List ℕ → Bool
@@ -64,35 +64,35 @@ isHexadecimal w = eqList w (ascii "-") || (leb 1 (length w) && isPairs w)
 
 -- ---- words
 
--- what stands before the first space, and behind it
-pub record Cut : Type 0 where
+-- what comes before the first space, and after it
+pub record Split : Type 0 where
   pub word : List ℕ
   pub rest : List ℕ
 
-unfoldable pub firstWord : List ℕ → Option Cut
+unfoldable pub firstWord : List ℕ → Option Split
 firstWord s = let n = until (code " ") s in cond (ltb n (length s)) (some (record { word = take n s; rest = drop (n + 1) s })) none
 
--- a number before the first space, and what stands behind it
+-- a number before the first space, and what follows it
 pub record Numbered : Type 0 where
   pub value : ℕ
   pub rest : List ℕ
 
 unfoldable pub firstNumber : List ℕ → Option Numbered
-firstNumber s = andThen (firstWord s) (λ c. andThen (readNumber (c .word)) (λ n. some (record { value = n; rest = c .rest })))
+firstNumber s = thenRead (firstWord s) (λ c. thenRead (readNumber (c .word)) (λ n. some (record { value = n; rest = c .rest })))
 
--- ---- lines: what stands behind the letter and its space
+-- ---- lines: what follows the letter and its space
 
 unfoldable pub readTwo : List ℕ → Option Call
-readTwo s = andThen (firstNumber s) (λ m. andThen (readNumber (m .rest)) (λ k. some (query (m .value) k)))
+readTwo s = thenRead (firstNumber s) (λ m. thenRead (readNumber (m .rest)) (λ k. some (query (m .value) k)))
 
 unfoldable pub readThree : (ℕ → ℕ → ℕ → Call) → List ℕ → Option Call
 readThree f s =
-    andThen (firstNumber s) (λ m. andThen (firstNumber (m .rest)) (λ k. andThen (readNumber (k .rest)) (λ n. some (f (m .value) (k .value) n))))
+    thenRead (firstNumber s) (λ m. thenRead (firstNumber (m .rest)) (λ k. thenRead (readNumber (k .rest)) (λ n. some (f (m .value) (k .value) n))))
 
 unfoldable pub readSettle : List ℕ → Option Call
 readSettle s =
-    andThen (firstWord s)
-    (λ c. cond (isHexadecimal (c .word) && isHexadecimal (c .rest)) (some (settle (bytesOf (c .word)) (bytesOf (c .rest)))) none)
+    thenRead (firstWord s)
+    (λ c. cond (isHexadecimal (c .word) && isHexadecimal (c .rest)) (some (settle (pairBytes (c .word)) (pairBytes (c .rest)))) none)
 
 unfoldable pub readForm : ℕ → List ℕ → Option Call
 readForm x s =

@@ -10,16 +10,16 @@ use Rattle.model.specs.Questions.{ok, refused, done, holding}
 use Rattle.model.specs.Calls.{Call, issue, redeem, query, settle}
 use Rattle.model.specs.Grammar.{decimal}
 use Rattle.model.specs.Limits.{numberMost}
-use Rattle.commands.specs.Grammar.{hexadecimal, printCommand, printReply, printBad, printBook, wellFormed}
-use Rattle.commands.specs.Reader.{bytesOf, readCommand}
+use Rattle.commands.specs.Grammar.{hexadecimal, printCommand, printReply, printBad, printBook, wellFormedCall}
+use Rattle.commands.specs.Reader.{pairBytes, readCommand}
 
 -- a line is read exactly if it is a printed well-formed command, and it is read back
 abbrev pub CommandsRead : Type 0
-CommandsRead = (w : List ℕ) (c : Call) → (readCommand w ≡ some c) ↔ ((printCommand c ≡ w) × T (wellFormed c))
+CommandsRead = (w : List ℕ) (c : Call) → (readCommand w ≡ some c) ↔ ((printCommand c ≡ w) × T (wellFormedCall c))
 
 -- the bytes of a printed word are read back
 abbrev pub BytesRead : Type 0
-BytesRead = (bs : List ℕ) → T (every isByte bs) → bytesOf (hexadecimal bs) ≡ bs
+BytesRead = (bs : List ℕ) → T (every isByte bs) → pairBytes (hexadecimal bs) ≡ bs
 
 -- a line of each form, as it is printed
 pub record ExamplesPrinted : Type 0 where

@@ -5,8 +5,9 @@ use mathlib.Core.Option.{Option, none, some}
 use Prim.Native.Nat.{ℕ, _-_, _≤_, min}
 use lib.ListN.{length, take, drop}
 use Rattle.model.specs.Calls.{Call, issue, redeem, query, settle}
-use Rattle.commands.specs.Reader.{bytesOf}
+use Rattle.commands.specs.Reader.{pairBytes}
 use Rattle.commands.specs.declared.Place.{Place}
+use Rattle.commands.specs.declared.Words.{Words}
 use Rattle.commands.specs.declared.Command.{Command}
 use Rattle.commands.specs.declared.Command.the-variants.{Issue, Redeem, Query, Settle, Bad}
 
@@ -16,12 +17,16 @@ use Rattle.commands.specs.declared.Command.the-variants.{Issue, Redeem, 
 abbrev pub wordAt : List ℕ → Place → List ℕ
 wordAt line p = take (p .to - p .from) (drop (p .from) line)
 
+-- the settlement of a line's two words
+abbrev pub settlementOf : List ℕ → Words → Call
+settlementOf line w = settle (pairBytes (wordAt line (w .exchange))) (pairBytes (wordAt line (w .proof)))
+
 -- the call that a command of a line is; an ill-formed line has none
 abbrev pub commandOf : List ℕ → Command → Option Call
 commandOf line (Issue m k n) = some (issue m k n)
 commandOf line (Redeem m k n) = some (redeem m k n)
 commandOf line (Query m k) = some (query m k)
-commandOf line (Settle w) = some (settle (bytesOf (wordAt line (w .exchange))) (bytesOf (wordAt line (w .proof))))
+commandOf line (Settle w) = some (settlementOf line w)
 commandOf line Bad = none
 
 abbrev pub LiesIn : List ℕ → Place → Type 0
@@ -36,7 +41,7 @@ Inside line (Settle w) = LiesIn line (w .exchange) × LiesIn line (w .proof)
 Inside line Bad = Unit
 
 -- the command is this reading of the line; of a settlement's words the bytes are told, and that they lie in the line: where in it is free
-pub record Reads (line : List ℕ) (reading : Option Call) (command : Command) : Type 0 where
+pub record ReadAs (line : List ℕ) (reading : Option Call) (command : Command) : Type 0 where
   pub means : commandOf line command ≡ reading
   pub inside : Inside line command
 
@@ -48,11 +53,11 @@ over bytes buffer = take (length buffer) bytes ++ drop (length bytes) buffer
 
 -- the bytes are put there, and count tells how many there was room for
 pub record Filled (bytes buffer after : List ℕ) (count : ℕ) : Type 0 where
-  pub filled : after ≡ over bytes buffer
+  pub put : after ≡ over bytes buffer
   pub counted : count ≡ min (length bytes) (length buffer)
 
--- the text is put there, and count tells its length: it fits into any buffer of 32 bytes
-pub record Printed (text buffer after : List ℕ) (count : ℕ) : Type 0 where
-  pub printed : after ≡ over text buffer
+-- the text is put there, and count tells its length: it fits into any buffer with so much room
+pub record Printed (room : ℕ) (text buffer after : List ℕ) (count : ℕ) : Type 0 where
+  pub put : after ≡ over text buffer
   pub counted : count ≡ length text
-  pub fits : length text ≤ 32
+  pub fits : length text ≤ room

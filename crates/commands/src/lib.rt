@@ -12,7 +12,7 @@ pub use replies::put_bad;
 pub use replies::put_book;
 pub use replies::put_reply;
 
-// A word's place in a line: where its first byte stands, and the place behind its last.
+// A word's place in a line: where its first byte is, and the place after its last.
 pub struct Place {
     pub from: usize,
     pub to: usize,

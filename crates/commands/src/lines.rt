@@ -1,4 +1,4 @@
-// A command line by its first letter; its words stand one space apart.
+// A command line by its first letter; its words are one space apart.
 use crate::Command;
 use crate::Place;
 use crate::Words;
@@ -10,13 +10,13 @@ ghost use Prim.Native.Nat.{ℕ, _≤_};
 ghost use lib.ListN.{length, drop};
 ghost use Rattle.model.specs.Calls.{Call};
 ghost use Rattle.commands.specs.Reader.{firstNumber, readThree, readTwo, readSettle, readCommand};
-ghost use Rattle.commands.specs.View.{Reads};
-ghost use Rattle.commands.specs.Parts.{leadingOf, Goes, tripleOf};
+ghost use Rattle.commands.specs.View.{ReadAs};
+ghost use Rattle.commands.specs.inner.Parts.{leadingOf, Goes, tripleOf};
 
-// The words stand behind the letter and its space.
+// The words follow the letter and its space.
 const BODY: usize = 2;
 
-// A number before a space, and the place behind the space.
+// A number before a space, and the place after the space.
 enum Leading {
     Number(u32, usize),
     Missing,
@@ -60,7 +60,7 @@ fn three_numbers(line: &[u8]) -> Triple
 
 fn query(line: &[u8]) -> Command
     requires { ⌜ 2 ≤ length (now line) ⌝ }
-    ensures { λ r. ⌜ Reads (now (line .entry)) (readTwo (drop 2 (now (line .entry)))) r ⌝ }
+    ensures { λ r. ⌜ ReadAs (now (line .entry)) (readTwo (drop 2 (now (line .entry)))) r ⌝ }
 {
     let Leading::Number(m, at) = first_number(line, BODY) else {
         return Command::Bad;
@@ -73,7 +73,7 @@ fn query(line: &[u8]) -> Command
 
 fn settlement(line: &[u8]) -> Command
     requires { ⌜ 2 ≤ length (now line) ⌝ }
-    ensures { λ r. ⌜ Reads (now (line .entry)) (readSettle (drop 2 (now (line .entry)))) r ⌝ }
+    ensures { λ r. ⌜ ReadAs (now (line .entry)) (readSettle (drop 2 (now (line .entry)))) r ⌝ }
 {
     let end = ascii::find(line, BODY, b' ');
     let len = line.len();
@@ -101,7 +101,7 @@ fn settlement(line: &[u8]) -> Command
 
 // What a line commands, for any bytes.
 pub fn read(line: &[u8]) -> Command
-    ensures { λ r. ⌜ Reads (now (line .entry)) (readCommand (now (line .entry))) r ⌝ }
+    ensures { λ r. ⌜ ReadAs (now (line .entry)) (readCommand (now (line .entry))) r ⌝ }
 {
     if line.len() < BODY {
         return Command::Bad;

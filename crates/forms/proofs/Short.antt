@@ -1,4 +1,4 @@
--- A line that ends before has no price and no condition at a place.
+-- A line that ends before a part's last byte has no price and no condition there.
 use mathlib.Core.Path.{_≡_, refl}
 use mathlib.Core.Bool.{Bool, true, false, _&&_, _||_}
 use mathlib.Core.List.{List}
@@ -10,7 +10,7 @@ use lib.ListN.{length, getD, List·getD-eq-default}
 use Rattle.model.specs.Grammar.{isVariable}
 use Rattle.model.specs.Reader.{groupOf, nameOf, isNameNumber, markAt, priceWidth, conditionWidth, hasPrice, hasCondition, spaceAt, kindOf, variableOf}
 
--- a byte past the end is no name, so a line that ends before has neither
+-- a byte past the end is no name, so such a line has neither
 pub price-short : (w : List ℕ) (p : ℕ) → length w < p + priceWidth → false ≡ hasPrice w p
 unfolding hasPrice nameOf variableOf
 price-short w p l =

@@ -1,4 +1,4 @@
--- What is told of a rule line: whether it has the form, and where its parts stand.
+-- What is told of a rule line: whether it has the form, and where its parts are.
 use mathlib.Core.Path.{_≡_}
 use mathlib.Core.List.{List}
 use Prim.Native.Nat.{ℕ, _+_, _*_, _≤_}

@@ -5,12 +5,17 @@ ghost use mathlib.Core.Path.{_≡_};
 ghost use mathlib.Core.List.{map};
 ghost use Prim.Native.Nat.{_≤_};
 ghost use lib.Dec.{leb};
-ghost use lib.ListN.{length};
 ghost use Rattle.model.specs.Limits.{mostDigits};
 ghost use Rattle.model.specs.Lists.{every};
 ghost use Rattle.model.specs.CardNumbers.{weighed, luhn};
 ghost use Rattle.model.specs.Reader.{digitOf, isCardLine};
-ghost use Rattle.model.specs.Opening.{isCardNumber};
+ghost use Rattle.forms.specs.Numbers.{inRow, digitsIn, isNumberIn};
+
+// A card number: how many digits it has, and the first 19 of them, zeros after the last.
+pub struct CardNumber {
+    pub count: usize,
+    pub digits: [u8; 19],
+}
 
 fn all_digits(s: &[u8]) -> bool
     ensures { λ r. ⌜ r ≡ every (λ x. leb (digitOf x) 9) (now (s .entry)) ⌝ }
@@ -33,10 +38,24 @@ pub fn is_card_line(line: &[u8]) -> bool
     spaced & all_digits(&line[2..])
 }
 
+// The number that a card line's digits are. Each byte is converted once: questions 4 and 5 are asked of the row.
+pub fn card_number(s: &[u8]) -> CardNumber
+    ensures { λ r. ⌜ r ≡ inRow (map digitOf (now (s .entry))) ⌝ }
+{
+    let mut digits = [0; 19];
+    let n = limits::least(s.len(), MOST_DIGITS);
+    for i in 0..n {
+        digits[i] = ascii::digit(s[i]);
+    }
+    CardNumber {
+        count: s.len(),
+        digits,
+    }
+}
+
 // What a digit counts in the check sum, with so many digits to its right.
 fn weigh(right: usize, d: u8) -> usize
-    requires { ⌜ d ≤ 10 ⌝ }
-    ensures { λ r. ⌜ (r ≡ weighed right d) × (r ≤ 20) ⌝ }
+    ensures { λ r. ⌜ (r ≡ weighed right d) × (r ≤ 510) ⌝ }
 {
     let x = d as usize;
     if right % 2 != 1 {
@@ -49,26 +68,28 @@ fn weigh(right: usize, d: u8) -> usize
 }
 
 // Whether the check digit is right: the Luhn formula.
-fn checks(s: &[u8]) -> bool
-    requires { ⌜ length (now s) ≤ mostDigits ⌝ }
-    ensures { λ r. ⌜ r ≡ luhn (map digitOf (now (s .entry))) ⌝ }
+fn checks(number: CardNumber) -> bool
+    requires { ⌜ number .count ≤ mostDigits ⌝ }
+    ensures { λ r. ⌜ r ≡ luhn (digitsIn number) ⌝ }
 {
+    let n = number.count;
+    let digits = number.digits;
     let mut sum = 0;
-    for i in 0..s.len() {
-        sum += weigh(s.len() - (i + 1), ascii::digit(s[i]));
+    for i in 0..n {
+        sum += weigh(n - (i + 1), digits[i]);
     }
     sum % 10 == 0
 }
 
 // Question 4.
-pub fn is_card_number(s: &[u8]) -> bool
-    ensures { λ r. ⌜ r ≡ isCardNumber (map digitOf (now (s .entry))) ⌝ }
+pub fn is_card_number(number: CardNumber) -> bool
+    ensures { λ r. ⌜ r ≡ isNumberIn number ⌝ }
 {
-    if s.len() < LEAST_DIGITS {
+    if MOST_DIGITS < number.count {
         return false;
     }
-    if MOST_DIGITS < s.len() {
+    if number.count < LEAST_DIGITS {
         return false;
     }
-    checks(s)
+    checks(number)
 }

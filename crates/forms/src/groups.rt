@@ -1,5 +1,4 @@
 // Group lines: `G g m`.
-use crate::letters;
 ghost use mathlib.Core.Path.{_≡_};
 ghost use Rattle.model.specs.Reader.{isGroupLine};
 

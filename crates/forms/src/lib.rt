@@ -1,25 +1,19 @@
-// The forms of a rule text's lines, without their LF: question 2; card numbers: question 4; and what the letters of a line stand for.
+// The forms of a rule text's lines, without their LF: question 2; and card numbers: question 4.
 mod cards;
 mod groups;
-mod letters;
 mod rules;
 
+pub use cards::CardNumber;
+pub use cards::card_number;
 pub use cards::is_card_line;
 pub use cards::is_card_number;
 pub use groups::is_group_line;
-pub use letters::group;
-pub use letters::kind;
-pub use letters::name;
-pub use letters::number_at;
-pub use letters::number_width;
-pub use letters::variable;
 pub use rules::RuleForm;
 pub use rules::rule_form;
 
-// The numbers of document 01.
-pub const LEAST_DIGITS: usize = 12;
+const LEAST_DIGITS: usize = limits::LEAST_DIGITS as usize;
 
-pub const MOST_DIGITS: usize = limits::MOST_DIGITS as usize;
+const MOST_DIGITS: usize = limits::MOST_DIGITS as usize;
 
 const PRICE_LIMIT: usize = limits::PRICE_LIMIT as usize;
 

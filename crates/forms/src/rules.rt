@@ -3,18 +3,26 @@ use crate::CONDITION_LIMIT;
 use crate::CONDITION_WIDTH;
 use crate::PRICE_LIMIT;
 use crate::PRICE_WIDTH;
-use crate::letters;
-use crate::letters::STAR;
+use letters::STAR;
 ghost use mathlib.Core.Path.{_≡_};
 ghost use Prim.Native.Nat.{_+_, _*_, _≤_};
 ghost use Rattle.model.specs.Limits.{priceLimit, conditionLimit};
-ghost use Rattle.model.specs.Reader.{priceWidth, conditionWidth, hasPrice, hasCondition, hasHead, priceCount, conditionCount};
+ghost use Rattle.model.specs.Reader.{priceWidth, conditionWidth, markAt, hasPrice, hasCondition, hasHead, priceCount, conditionCount};
 ghost use Rattle.forms.specs.Forms.{longest, Formed};
 
 // The bytes of ` K v`.
 const HEAD_WIDTH: usize = 4;
 
-// Whether a price stands at a place: ` < w K y`, with w and y different.
+// Whether x follows a place, between two spaces.
+fn marked(line: &[u8], at: usize, x: u8) -> bool
+    requires { ⌜ at ≤ longest ⌝ }
+    ensures { λ r. ⌜ r ≡ markAt (now (line .entry)) at x ⌝ }
+{
+    (ascii::byte(line, at) == b' ')
+        & ((ascii::byte(line, at + 1) == x) & (ascii::byte(line, at + 2) == b' '))
+}
+
+// Whether a price is at a place: ` < w K y`, with w and y different.
 fn has_price(line: &[u8], at: usize) -> bool
     requires { ⌜ at ≤ longest ⌝ }
     ensures { λ r. ⌜ r ≡ hasPrice (now (line .entry)) at ⌝ }
@@ -26,11 +34,11 @@ fn has_price(line: &[u8], at: usize) -> bool
     let k = letters::kind(ascii::byte(line, at + 5));
     let y = letters::name(ascii::byte(line, at + 7));
     let spaced = (ascii::byte(line, at + 4) == b' ') & (ascii::byte(line, at + 6) == b' ');
-    letters::marked(line, at, b'<')
+    marked(line, at, b'<')
         & ((w < limits::VARIABLE_COUNT) & ((1 <= k) & ((y <= STAR) & (!(w == y) & spaced))))
 }
 
-// Whether a condition stands at a place: ` ? g z` or ` = z z`.
+// Whether a condition is at a place: ` ? g z` or ` = z z`.
 fn has_condition(line: &[u8], at: usize) -> bool
     requires { ⌜ at ≤ longest ⌝ }
     ensures { λ r. ⌜ r ≡ hasCondition (now (line .entry)) at ⌝ }
@@ -39,13 +47,13 @@ fn has_condition(line: &[u8], at: usize) -> bool
         return false;
     }
     let x = ascii::byte(line, at + 3);
-    let member = letters::marked(line, at, b'?') & (1 <= letters::group(x));
-    let alike = letters::marked(line, at, b'=') & (letters::name(x) <= STAR);
+    let member = marked(line, at, b'?') & (1 <= letters::group(x));
+    let alike = marked(line, at, b'=') & (letters::name(x) <= STAR);
     let z = letters::name(ascii::byte(line, at + 5));
     (member | alike) & ((ascii::byte(line, at + 4) == b' ') & (z <= STAR))
 }
 
-// How many prices stand one behind the other at a place, at most four; conditions likewise.
+// How many prices follow one another at a place, at most four; conditions likewise.
 fn price_count(line: &[u8], at: usize) -> usize
     requires { ⌜ at + priceLimit * priceWidth ≤ longest ⌝ }
     ensures { λ r. ⌜ (r ≡ priceCount (now (line .entry)) at) × (r ≤ priceLimit) ⌝ }

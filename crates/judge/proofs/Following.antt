@@ -18,13 +18,14 @@ use Rattle.model.specs.Proof.{recordAt, next, claim, ruleNumber, cards, asked, 
 use Rattle.model.proofs.Tests.{both-true, within-true}
 use Rattle.model.proofs.Places.{upTo-length}
 use Rattle.model.proofs.Soundness.{unclaimed, unclaimed-set, unclaimed-first}
-use Rattle.rulebook.specs.View.{rowAt}
-use Rattle.transfers.specs.View.{transfers}
-use Rattle.judge.specs.Parts.{Parts, Limited, bookWith}
-use Rattle.judge.specs.Rows.{priceCount, priceAt, pricesAt}
-use Rattle.judge.specs.Records.{isClaimable, isLinked, ruleTests, recordTests}
-use Rattle.judge.specs.Notes.{Notable, Noted}
-use Rattle.judge.specs.Counts.{FirstGifts, Room, Asks, isPaid}
+use Rattle.rulebook.specs.Layout.{rowAt}
+use Rattle.rulebook.specs.View.{ruleCount, rowPriceCount, bookOf}
+use Rattle.transfers.specs.View.{transferCount}
+use Rattle.rulebook.proofs.Books.{rules-small}
+use Rattle.judge.specs.inner.Rows.{priceAsked, pricesAsked}
+use Rattle.judge.specs.inner.Records.{isClaimable, isLinked, questions16to19, questions15to20}
+use Rattle.judge.specs.inner.Notes.{Notable, Noted}
+use Rattle.judge.specs.inner.Counts.{FirstGifts, Room, Asks, isPaid}
 use Rattle.judge.proofs.Paying.{noCounts, asks-none, asks-more, asks-swap, counts-room, paid≡}
 use Rattle.model.proofs.Questions.{unmet-append, first-refuses}
 use Rattle.judge.proofs.Issuers.{prices≡, rule-at}
@@ -32,10 +33,10 @@ use Rattle.judge.proofs.Agreeing.{free, agrees}
 
 -- ---- what a record says that meets its questions
 
-pub record Passed (t : Parts) (e r : List ℕ) (marks : List Bool) (left records : ℕ) : Type 0 where
-  pub claimable : isClaimable marks (transfers e) (claim r) ≡ true
-  pub claim-bounds : (1 ≤ claim r) × (claim r ≤ transfers e)
-  pub rule-bounds : (1 ≤ ruleNumber r) × (ruleNumber r ≤ t .rules)
+pub record Passed (cardTable ruleTable : List ℕ) (e r : List ℕ) (marks : List Bool) (left records : ℕ) : Type 0 where
+  pub claimable : isClaimable marks (transferCount e) (claim r) ≡ true
+  pub claim-bounds : (1 ≤ claim r) × (claim r ≤ transferCount e)
+  pub rule-bounds : (1 ≤ ruleNumber r) × (ruleNumber r ≤ ruleCount ruleTable)
   pub linked : isLinked left (next r) records ≡ true
 
 cond-zero : (x : Bool) (q k : ℕ) → cond x q (suc k) ≡ 0 → (x ≡ true) × (q ≡ 0)
@@ -46,25 +47,25 @@ append-zero : (q k : ℕ) → cond (eqb q 0) k q ≡ 0 → k ≡ 0
 append-zero zero k h = h
 append-zero (suc q) k h = let z : suc q ≡ 0 = rw (ne-eqb (suc q) 0 (λ e. omega arith)) at h in absurd (omega arith)
 
-pub passed : (t : Parts) (e r : List ℕ) (marks : List Bool) (left records : ℕ) → firstUnmet (recordTests t e r marks left records) ≡ 0 → Passed t e r marks left records
-unfolding recordTests ruleTests
-passed t e r marks left records h =
-    let a = cond-zero (isClaimable marks (transfers e) (claim r)) _ 14 h in
-    let b = cond-zero (within (ruleNumber r) (t .rules)) _ 15 (a .1) in
-    let rule = ruleTests (t .cards) (t .digits) (t .groups) (rowAt (t .rows) (ruleNumber r - 1)) r (transferAt e (claim r - 1)) in
+pub passed : (cardTable ruleTable : List ℕ) (e r : List ℕ) (marks : List Bool) (left records : ℕ) → firstUnmet (questions15to20 cardTable ruleTable e r marks left records) ≡ 0 → Passed cardTable ruleTable e r marks left records
+unfolding questions15to20 questions16to19
+passed cardTable ruleTable e r marks left records h =
+    let a = cond-zero (isClaimable marks (transferCount e) (claim r)) _ 14 h in
+    let b = cond-zero (within (ruleNumber r) (ruleCount ruleTable)) _ 15 (a .1) in
+    let rule = questions16to19 cardTable (rowAt ruleTable (ruleNumber r)) r (transferAt e (claim r - 1)) in
     let link = (20 unless isLinked left (next r) records) ∷ [] in
     record {
       claimable = a .0;
-      claim-bounds = within-true (claim r) (transfers e) (both-true (within (claim r) (transfers e)) _ (a .0) .0);
-      rule-bounds = within-true (ruleNumber r) (t .rules) (b .0);
+      claim-bounds = within-true (claim r) (transferCount e) (both-true (within (claim r) (transferCount e)) _ (a .0) .0);
+      rule-bounds = within-true (ruleNumber r) (ruleCount ruleTable) (b .0);
       linked = cond-zero (isLinked left (next r) records) 0 19 (append-zero (firstUnmet rule) (firstUnmet link) (sym (unmet-append rule link tt) ∙ b .1)) .0;
     }
 
 -- ---- the chain
 
-module _ (t : Parts) (e p : List ℕ) where
+module _ (cardTable ruleTable : List ℕ) (e p : List ℕ) where
   abbrev n : ℕ
-  n = transfers e
+  n = transferCount e
 
   abbrev records : ℕ
   records = length p / 12
@@ -74,8 +75,8 @@ module _ (t : Parts) (e p : List ℕ) where
   paying P = inOrder ((21 unless contained P (exchangeOf e)) ∷ []) 0 (ok done)
 
   -- the model's answer from record i on
-  abbrev answerFrom : List ℕ → ℕ → List Bool → Exchange → ℕ → Reply
-  answerFrom lengths left marks P i = andThen (chain (bookWith t lengths) (exchangeOf e) p left i (take n marks) P) paying
+  abbrev answerFrom : ℕ → List Bool → Exchange → ℕ → Reply
+  answerFrom left marks P i = andThen (chain (bookOf cardTable ruleTable) (exchangeOf e) p left i (take n marks) P) paying
 
   -- record i is taken up, `left` transfers being unclaimed
   pub record Going (left : ℕ) (marks : List Bool) (counts : List ℕ) (missing : Bool) (i : ℕ) : Type 0 where
@@ -85,14 +86,14 @@ module _ (t : Parts) (e p : List ℕ) where
     pub size : length marks ≡ 32
     pub unclaimed≡ : unclaimed (take n marks) ≡ left
     pub here : 0 < left → (1 ≤ i) × (i * 12 ≤ length p)
-    pub same : (lengths : List ℕ) → answerFrom lengths left marks prices i ≡ judgeChain (bookWith t lengths) (exchangeOf e) p
+    pub same : answerFrom left marks prices i ≡ judgeChain (bookOf cardTable ruleTable) (exchangeOf e) p
 
   first-marks : (k m : ℕ) → k ≤ m → take k (replicate m false) ≡ replicate k false
   first-marks zero m h = refl
   first-marks (suc k) zero h = absurd (omega arith)
   first-marks (suc k) (suc m) h = ap (λ (z : List Bool). false ∷ z) (first-marks k m (omega arith))
 
-  module _ (limited : Limited t) (short : length e ≤ 96) where
+  module _ (short : length e ≤ 96) where
     X-length : length (exchangeOf e) ≡ n
     unfolding exchangeOf
     X-length = upTo-length (transferAt e) n
@@ -107,25 +108,25 @@ module _ (t : Parts) (e p : List ℕ) where
           size = length-replicate 32 false;
           unclaimed≡ = ap unclaimed none ∙ unclaimed-first n;
           here = λ l. omega arith;
-          same = λ lengths. rw (none, X-length);
+          same = rw (none, X-length);
         }
 
     -- the model's chain by the first unmet question over the bytes
-    chain-step : (lengths : List ℕ) (left i : ℕ) (marks : List Bool) (P : Exchange) → length marks ≡ 32 → 0 < left → unclaimed (take n marks) ≡ left
-        → chain (bookWith t lengths) (exchangeOf e) p left i (take n marks) P
-        ≡ cond (eqb (firstUnmet (recordTests t e (recordAt p i) marks (left - 1) records)) 0)
-        (chain (bookWith t lengths) (exchangeOf e) p (left - 1) (next (recordAt p i)) (marked (take n marks) (recordAt p i)) (asked (bookWith t lengths) (recordAt p i) ++ P))
-        (refused (firstUnmet (recordTests t e (recordAt p i) marks (left - 1) records)) i)
+    chain-step : (left i : ℕ) (marks : List Bool) (P : Exchange) → length marks ≡ 32 → 0 < left → unclaimed (take n marks) ≡ left
+        → chain (bookOf cardTable ruleTable) (exchangeOf e) p left i (take n marks) P
+        ≡ cond (eqb (firstUnmet (questions15to20 cardTable ruleTable e (recordAt p i) marks (left - 1) records)) 0)
+        (chain (bookOf cardTable ruleTable) (exchangeOf e) p (left - 1) (next (recordAt p i)) (marked (take n marks) (recordAt p i)) (asked (bookOf cardTable ruleTable) (recordAt p i) ++ P))
+        (refused (firstUnmet (questions15to20 cardTable ruleTable e (recordAt p i) marks (left - 1) records)) i)
     unfolding chain
-    chain-step lengths zero i marks P s h u = absurd (omega arith)
-    chain-step lengths (suc left) i marks P s h u =
-        let b = bookWith t lengths in
+    chain-step zero i marks P s h u = absurd (omega arith)
+    chain-step (suc left) i marks P s h u =
+        let b = bookOf cardTable ruleTable in
         let r = recordAt p i in
         let rest = chain b (exchangeOf e) p left (next r) (marked (take n marks) r) (asked b r ++ P) in
         let d : suc left - 1 ≡ left = omega arith in
         rw d
         (first-refuses (recordQuestions b (exchangeOf e) records r (take n marks)) i rest tt
-        ∙ ap (λ (q : ℕ). cond (eqb q 0) rest (refused q i)) (agrees t limited lengths e short r marks s left records u))
+        ∙ ap (λ (q : ℕ). cond (eqb q 0) rest (refused q i)) (agrees cardTable ruleTable e short r marks s left records u))
 
     module _ (left : ℕ) (marks : List Bool) (counts : List ℕ) (missing : Bool) (i : ℕ) (g : Going left marks counts missing i) where
       abbrev r : List ℕ
@@ -133,47 +134,47 @@ module _ (t : Parts) (e p : List ℕ) where
 
       -- the number that the record's questions give
       abbrev q : ℕ
-      q = firstUnmet (recordTests t e r marks (left - 1) records)
+      q = firstUnmet (questions15to20 cardTable ruleTable e r marks (left - 1) records)
 
       -- each count has room for the prices of one more record
       pub room : 0 < left → Room e 4 counts
       room l = counts-room e (g .prices) counts (not missing) 4 short (g .asks) (omega (arith, g .few))
 
-      turn : (lengths : List ℕ) → 0 < left → chain (bookWith t lengths) (exchangeOf e) p left i (take n marks) (g .prices)
-          ≡ cond (eqb q 0) (chain (bookWith t lengths) (exchangeOf e) p (left - 1) (next r) (marked (take n marks) r) (asked (bookWith t lengths) r ++ g .prices)) (refused q i)
-      turn lengths l = chain-step lengths left i marks (g .prices) (g .size) l (g .unclaimed≡)
+      turn : 0 < left → chain (bookOf cardTable ruleTable) (exchangeOf e) p left i (take n marks) (g .prices)
+          ≡ cond (eqb q 0) (chain (bookOf cardTable ruleTable) (exchangeOf e) p (left - 1) (next r) (marked (take n marks) r) (asked (bookOf cardTable ruleTable) r ++ g .prices)) (refused q i)
+      turn l = chain-step left i marks (g .prices) (g .size) l (g .unclaimed≡)
 
       -- a record that does not meet a question is refused
-      pub going-stops : 0 < left → (q ≡ 0 → ⊥) → (lengths : List ℕ) → refused q i ≡ judgeChain (bookWith t lengths) (exchangeOf e) p
-      going-stops l h lengths =
-          let stopped : chain (bookWith t lengths) (exchangeOf e) p left i (take n marks) (g .prices) ≡ refused q i = rw (ne-eqb q 0 h) at (turn lengths l) in
-          rw stopped at (g .same lengths)
+      pub going-stops : 0 < left → (q ≡ 0 → ⊥) → refused q i ≡ judgeChain (bookOf cardTable ruleTable) (exchangeOf e) p
+      going-stops l h =
+          let stopped : chain (bookOf cardTable ruleTable) (exchangeOf e) p left i (take n marks) (g .prices) ≡ refused q i = rw (ne-eqb q 0 h) at (turn l) in
+          rw stopped at (g .same)
 
       -- the chain has ended
-      pub going-ends : left ≤ 0 → (lengths : List ℕ) → cond (isPaid e counts missing) (ok done) (refused 21 0) ≡ judgeChain (bookWith t lengths) (exchangeOf e) p
+      pub going-ends : left ≤ 0 → cond (isPaid e counts missing) (ok done) (refused 21 0) ≡ judgeChain (bookOf cardTable ruleTable) (exchangeOf e) p
       unfolding chain
-      going-ends l lengths =
+      going-ends l =
           let z : left ≡ 0 = omega arith in
-          rw (paid≡ e (g .prices) counts missing short (g .asks)) (rw z at (g .same lengths))
+          rw (paid≡ e (g .prices) counts missing short (g .asks)) (rw z at (g .same))
 
       module _ (some : 0 < left) (met : q ≡ 0) where
         abbrev row : List ℕ
-        row = rowAt (t .rows) (ruleNumber r - 1)
+        row = rowAt ruleTable (ruleNumber r)
 
-        abbrev ok-record : Passed t e r marks (left - 1) records
-        ok-record = passed t e r marks (left - 1) records met
+        abbrev ok-record : Passed cardTable ruleTable e r marks (left - 1) records
+        ok-record = passed cardTable ruleTable e r marks (left - 1) records met
 
         -- the next record is taken up
-        pub going-on : (after : List ℕ) (found : Bool) → Asks e (pricesAt row r) counts after found
+        pub going-on : (after : List ℕ) (found : Bool) → Asks e (pricesAsked row r) counts after found
             → Going (left - 1) (set marks (claim r - 1) true) after (missing || not found) (next r)
         going-on after found h = record {
-          prices = pricesAt row r ++ g .prices;
-          few = omega (arith, g .few, length-append (pricesAt row r) (g .prices), upTo-length (priceAt row r) (priceCount row));
-          asks = asks-swap e (g .prices) (pricesAt row r) noCounts after _ (rw (both-found missing found) (asks-more e (g .prices) (pricesAt row r) noCounts counts after (not missing) found (g .asks) h));
+          prices = pricesAsked row r ++ g .prices;
+          few = omega (arith, g .few, length-append (pricesAsked row r) (g .prices), upTo-length (priceAsked row r) (rowPriceCount row));
+          asks = asks-swap e (g .prices) (pricesAsked row r) noCounts after _ (rw (both-found missing found) (asks-more e (g .prices) (pricesAsked row r) noCounts counts after (not missing) found (g .asks) h));
           size = length-set marks (claim r - 1) true ∙ g .size;
           unclaimed≡ = ap unclaimed marks≡ ∙ omega (arith, g .unclaimed≡, unclaimed-set (take n marks) (claim r - 1) unmarked);
           here = λ l. next-here l;
-          same = λ lengths. same-answer lengths;
+          same = same-answer;
         }
           where
             both-found : (x y : Bool) → not (x || not y) ≡ (not x && y)
@@ -188,44 +189,43 @@ module _ (t : Parts) (e p : List ℕ) where
             marks≡ = take-set-lt n marks (claim r - 1) true claim-low
 
             unmarked : getD (take n marks) (claim r - 1) true ≡ false
-            unmarked = free t limited [] e short r marks (g .size) (ok-record .claimable)
+            unmarked = free cardTable ruleTable e short r marks (g .size) (ok-record .claimable)
 
             next-here : 0 < left - 1 → (1 ≤ next r) × (next r * 12 ≤ length p)
             next-here l = let w = within-true (next r) records (rw (ne-eqb (left - 1) 0 (λ z. omega arith)) at (ok-record .linked)) in omega arith
 
-            asked≡ : (lengths : List ℕ) → asked (bookWith t lengths) r ≡ pricesAt row r
-            asked≡ lengths =
-                ap (λ (R : Rule). pricesOf R (cards r)) (rule-at t limited lengths (ruleNumber r) (ok-record .rule-bounds .0) (ok-record .rule-bounds .1)) ∙ prices≡ row r
+            asked≡ : asked (bookOf cardTable ruleTable) r ≡ pricesAsked row r
+            asked≡ =
+                ap (λ (R : Rule). pricesOf R (cards r)) (rule-at cardTable ruleTable (ruleNumber r) (ok-record .rule-bounds .0) (ok-record .rule-bounds .1)) ∙ prices≡ row r
 
-            same-answer : (lengths : List ℕ) → answerFrom lengths (left - 1) (set marks (claim r - 1) true) (pricesAt row r ++ g .prices) (next r) ≡ judgeChain (bookWith t lengths) (exchangeOf e) p
-            same-answer lengths =
+            same-answer : answerFrom (left - 1) (set marks (claim r - 1) true) (pricesAsked row r ++ g .prices) (next r) ≡ judgeChain (bookOf cardTable ruleTable) (exchangeOf e) p
+            same-answer =
                 ap (λ (z : Answer Exchange). andThen z paying)
-                (ap₂ (λ (m : List Bool) (P : Exchange). chain (bookWith t lengths) (exchangeOf e) p (left - 1) (next r) m (P ++ g .prices)) marks≡ (sym (asked≡ lengths))
-                ∙ sym (turn lengths some ∙ rw (eq-eqb q 0 met)))
-                ∙ g .same lengths
+                (ap₂ (λ (m : List Bool) (P : Exchange). chain (bookOf cardTable ruleTable) (exchangeOf e) p (left - 1) (next r) m (P ++ g .prices)) marks≡ (sym (asked≡))
+                ∙ sym (turn some ∙ rw (eq-eqb q 0 met)))
+                ∙ g .same
 
 -- ---- a turn of the loop
 
 -- what is known of record r, record i of the chain, once it has met its questions
-pub record Turn (t : Parts) (e p firsts : List ℕ) (left : ℕ) (marks : List Bool) (counts : List ℕ) (missing : Bool) (r : List ℕ) : Type 0 where
+pub record Turn (cardTable ruleTable : List ℕ) (e p firsts : List ℕ) (left : ℕ) (marks : List Bool) (counts : List ℕ) (missing : Bool) (r : List ℕ) : Type 0 where
   pub notable : Notable e firsts r marks counts
-  pub on : {found : Bool} {marks′ : List Bool} {after : List ℕ} → Noted e (t .rows) r marks counts found marks′ after
-      → Going t e p (left - 1) marks′ after (missing || not found) (next r)
+  pub on : {found : Bool} {marks′ : List Bool} {after : List ℕ} → Noted e ruleTable r marks counts found marks′ after
+      → Going cardTable ruleTable e p (left - 1) marks′ after (missing || not found) (next r)
 
-pub turn-facts : (t : Parts) (e p firsts : List ℕ) → Limited t → length e ≤ 96 → FirstGifts e (transfers e) firsts → (left : ℕ) (marks : List Bool) (counts : List ℕ) (missing : Bool) (i : ℕ) (r : List ℕ)
-    → Going t e p left marks counts missing i → 0 < left → r ≡ recordAt p i → length r ≡ 12 → firstUnmet (recordTests t e r marks (left - 1) (length p / 12)) ≡ 0
-    → Turn t e p firsts left marks counts missing r
-turn-facts t e p firsts limited short gifts left marks counts missing i r g some r≡ size met =
-    let w = passed t e r marks (left - 1) (length p / 12) met in
+pub turn-facts : (cardTable ruleTable : List ℕ) (e p firsts : List ℕ) → length e ≤ 96 → FirstGifts e (transferCount e) firsts → (left : ℕ) (marks : List Bool) (counts : List ℕ) (missing : Bool) (i : ℕ) (r : List ℕ)
+    → Going cardTable ruleTable e p left marks counts missing i → 0 < left → r ≡ recordAt p i → firstUnmet (questions15to20 cardTable ruleTable e r marks (left - 1) (length p / 12)) ≡ 0
+    → Turn cardTable ruleTable e p firsts left marks counts missing r
+turn-facts cardTable ruleTable e p firsts short gifts left marks counts missing i r g some r≡ met =
+    let w = passed cardTable ruleTable e r marks (left - 1) (length p / 12) met in
     record {
       notable = record {
         short = short;
-        size = size;
         claim-bounds = omega (arith, w .claim-bounds);
-        rule-bounds = omega (arith, w .rule-bounds, limited .rules≤);
+        rule-bounds = omega (arith, w .rule-bounds, rules-small ruleTable);
         marked = g .size;
         gifts = gifts;
-        room = room t e p limited short left marks counts missing i g some;
+        room = room cardTable ruleTable e p short left marks counts missing i g some;
       };
-      on = λ {found} {marks′} {after} h. rw (h .claimed, r≡) (going-on t e p limited short left marks counts missing i g some (rw r≡ at met) after found (rw r≡ at (h .asked)));
+      on = λ {found} {marks′} {after} h. rw (h .claimed, r≡) (going-on cardTable ruleTable e p short left marks counts missing i g some (rw r≡ at met) after found (rw r≡ at (h .asked)));
     }

@@ -1,44 +1,42 @@
-// An exchange and its proof judged over a rulebook's flat tables: questions 12 to 21 of document 01.
+// An exchange and its proof judged over a rulebook's two tables: questions 12 to 21 of document 01.
 // Modules: `sizes` asks 12 and 14 (crate transfers 13), `records` 15, 16 and 20, `variables` 17, `prices` 18 and 21, `conditions` 19;
 // `chain` takes the records in turn.
 //
-// The tables come as their parts (rulebook::Tables without the lengths of the cards, which none of these questions needs), so that a caller
-// lends what it has and nothing is copied. Any value of them is taken: counts past their limit are cut to it.
+// The two tables are lent. Any value of them is taken: counts past their limit are cut to it.
 mod chain;
 mod conditions;
-mod layout;
 mod prices;
+mod proof;
 mod records;
 mod sizes;
-mod tables;
 mod variables;
 
-use answers::Answer;
+use answers::Reply;
+use rulebook::layout::CardTable;
+use rulebook::layout::RuleTable;
+use rulebook::layout::card_count;
 ghost use Rattle.judge.specs.Judges.{Judges};
 
+// The numbers of document 01 in bytes.
+const TRANSFER_SIZE: usize = limits::TRANSFER_SIZE as usize;
+
+const EXCHANGE_LIMIT: usize = 96;
+
+const PROOF_LIMIT: usize = 3060;
+
 // The first question that the exchange and its proof do not meet, with its place, or done.
-pub fn judge<'a>(
-    cards: u8,
-    digits: &'a [u8; 608],
-    groups: &'a [u8; 256],
-    rules: u8,
-    rows: &'a [u8; 1792],
-    exchange: &[u8],
-    proof: &[u8],
-) -> Answer
-    ensures { λ r. ⌜ Judges cards (now (digits .entry)) (now (groups .entry)) rules (now (rows .entry)) (now (exchange .entry)) (now (proof .entry)) r ⌝ }
+pub fn judge(cards: &CardTable, rules: &RuleTable, exchange: &[u8], proof: &[u8]) -> Reply
+    ensures { λ r. ⌜ Judges (now (cards .entry)) (now (rules .entry)) (now (exchange .entry)) (now (proof .entry)) r ⌝ }
 {
-    if !sizes::is_sized(exchange, layout::TRANSFER_SIZE, layout::EXCHANGE_LIMIT) {
-        return Answer::Refused(answers::EXCHANGE_SIZE, 0);
+    if !sizes::is_sized(exchange, TRANSFER_SIZE, EXCHANGE_LIMIT) {
+        return Reply::Refused(answers::EXCHANGE_SIZE, 0);
     }
-    let declared = limits::at_most(cards, limits::CARD_LIMIT);
-    let bad = transfers::first_improper(declared, exchange);
+    let bad = transfers::first_improper(card_count(cards), exchange);
     if bad != 0 {
-        return Answer::Refused(answers::BAD_TRANSFER, bad as u32);
+        return Reply::Refused(answers::BAD_TRANSFER, bad as u32);
     }
-    if !sizes::is_sized(proof, layout::RECORD_SIZE, layout::PROOF_LIMIT) {
-        return Answer::Refused(answers::PROOF_SIZE, 0);
+    if !sizes::is_sized(proof, proof::RECORD_SIZE, PROOF_LIMIT) {
+        return Reply::Refused(answers::PROOF_SIZE, 0);
     }
-    let written = limits::at_most(rules, limits::RULE_LIMIT);
-    chain::follow(declared, digits, groups, written, rows, exchange, proof)
+    chain::follow(cards, rules, exchange, proof)
 }

@@ -1,5 +1,5 @@
-// The numbers of document 01 that more than one crate needs, each at its smallest width, and the size of a rule's row; and a number
-// held to such a bound.
+// The numbers of document 01 that size the tables or that more than one crate needs, each at its smallest width, and a number held to
+// such a bound.
 ghost use mathlib.Core.Path.{_≡_};
 ghost use Prim.Native.Nat.{min};
 ghost use Rattle.model.specs.Lists.{within};
@@ -18,14 +18,14 @@ pub const PRICE_LIMIT: u8 = 4;
 
 pub const CONDITION_LIMIT: u8 = 4;
 
+pub const LEAST_DIGITS: u8 = 12;
+
 pub const MOST_DIGITS: u8 = 19;
 
 pub const SUM_LIMIT: u32 = 1_000_000_000;
 
-// The bytes of a transfer in an exchange, and of a rule's row in the tables.
+// The bytes of a transfer in an exchange.
 pub const TRANSFER_SIZE: u8 = 3;
-
-pub const ROW_SIZE: u8 = 32;
 
 // Whether n is one of 1 to m.
 pub fn is_within(n: u8, m: u8) -> bool
@@ -34,7 +34,13 @@ pub fn is_within(n: u8, m: u8) -> bool
     (1 <= n) & (n <= m)
 }
 
-// The smaller of the two.
+// The smaller of two numbers, at two widths.
+pub fn least(a: usize, b: usize) -> usize
+    ensures { λ r. ⌜ r ≡ min a b ⌝ }
+{
+    if a <= b { a } else { b }
+}
+
 pub fn at_most(n: u8, most: u8) -> u8
     ensures { λ r. ⌜ r ≡ min n most ⌝ }
 {

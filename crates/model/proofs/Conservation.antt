@@ -1,6 +1,7 @@
 -- Each call's effect on a kind's sum, for an arbitrary kind: settling keeps it, issuing and redeeming change it by their count.
 use mathlib.Core.Path.{_≡_, refl, sym, ap, ap₂, _∙_, subst}
 use mathlib.Core.Bool.{Bool, true, false, _&&_}
+use mathlib.Core.Logic.{_⊎_, inl, inr}
 use mathlib.Core.List.{List, [], _∷_, _++_}
 use Prim.Native.Nat.{ℕ, _+_, _-_, _*_, _≤_}
 use native.Mathlib.Omega.{arith}
@@ -9,13 +10,15 @@ use lib.ListN.{length}
 use Rattle.model.specs.Limits.{cardLimit, sumLimit}
 use Rattle.model.specs.Lists.{oneIf}
 use Rattle.model.specs.Questions.{ok, Told, done, _unless_}
+use Rattle.model.specs.Grammar.{isKind}
 use Rattle.model.specs.Book.{Book, declared}
-use Rattle.model.specs.Transfers.{exchangeOf}
-use Rattle.model.specs.Holdings.{State, sumTo, total}
+use Rattle.model.specs.Transfers.{Exchange, exchangeOf}
+use Rattle.model.specs.Fairness.{isProper, Among}
+use Rattle.model.specs.Holdings.{State, receives, sumTo, total}
 use Rattle.model.specs.Calls.{Call, issue, redeem, query, settle, accountQuestions, replyTo, amount, issues, redeems, receivedIn, givenIn, changed, after}
-use Rattle.model.proofs.Tests.{eq-T, eqb-same, within→}
+use Rattle.model.proofs.Tests.{eq-T, eqb-same, within→, zero-or-more}
 use Rattle.model.proofs.Questions.{inOrder-ok}
-use Rattle.model.proofs.Sums.{sum-add, sum-same, sum-zero, sum-point, and-scale, given-is-received, covered→}
+use Rattle.model.proofs.Sums.{sum-add, sum-same, sum-zero, sum-point, and-scale, proper-receiver, proper-kind, given-is-received, with-side, covered→}
 use Rattle.model.proofs.Settling.{settled-ok}
 
 -- ---- a call that is not refused takes no more than there is
@@ -36,6 +39,35 @@ takes-le b s (redeem c k n) t h d j =
     omega (arith, amount-le s c k n d j (leb→le n (s .held c k) (q .0 .1 .1 .0)))
 takes-le b s (query c k) t h d j = omega arith
 takes-le b s (settle e p) t h d j = omega (arith, covered→ s (exchangeOf e) (settled-ok b s e p t h .covered) d j)
+
+-- ---- and brings to declared cards and kinds alone
+
+module _ (b : Book) (d j : ℕ) (unknown : T (declared b d) → T (isKind j) → ⊥) where
+  amount-none : (c k n : ℕ) → T (declared b c) → T (isKind k) → amount c k n d j ≡ 0
+  amount-none c k n u v = go (eqb c d) (eqb k j) refl refl
+    where
+      go : (x y : Bool) → eqb c d ≡ x → eqb k j ≡ y → oneIf (x && y) * n ≡ 0
+      go true true e f = absurd (unknown (rw (eqb→eq c d (eq-T e)) at u) (rw (eqb→eq k j (eq-T f)) at v))
+      go true false e f = omega arith
+      go false y e f = omega arith
+
+  received-none : (X : Exchange) → Among b X → receives d j X ≡ 0
+  received-none X h = go (zero-or-more (receives d j X))
+    where
+      go : (receives d j X ≡ 0) ⊎ (1 ≤ receives d j X) → receives d j X ≡ 0
+      go (inl z) = z
+      go (inr l) =
+          let w = with-side (λ t. t .receiver) (isProper b) d j X h l in
+          absurd (unknown (rw (w .1) at (proper-receiver b (w .0) (w .3))) (rw (w .2) at (proper-kind b (w .0) (w .3))))
+
+  pub brings-none : (s : State) (call : Call) (t : Told) → replyTo b s call ≡ ok t → issues call d j + receivedIn call d j ≡ 0
+  unfolding replyTo
+  brings-none s (issue c k n) t h =
+      let q = inOrder-ok (accountQuestions b c k ++ ((10 unless leb (total s k + n) sumLimit) ∷ [])) 0 (ok done) t h in
+      omega (arith, amount-none c k n (q .0 .0) (q .0 .1 .0))
+  brings-none s (redeem c k n) t h = omega arith
+  brings-none s (query c k) t h = omega arith
+  brings-none s (settle e p) t h = omega (arith, received-none (exchangeOf e) (settled-ok b s e p t h .among))
 
 -- ---- the state afterwards, by what the call brings and takes
 

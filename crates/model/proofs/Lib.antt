@@ -6,7 +6,7 @@ pub mod Letters
 pub mod Bytes
 pub mod Words
 pub mod Printed
-pub mod Taken
+pub mod ReadLines
 pub mod Lines
 pub mod Cuts
 pub mod Texts

@@ -9,13 +9,13 @@ use lib.Dec.{T, leb, leb→le, le→leb}
 use lib.ListN.{length, replicate}
 use Rattle.model.specs.Limits.{cardLimit, kindCount, sumLimit, transferSize, exchangeLimit, recordSize, proofLimit}
 use Rattle.model.specs.Lists.{isByte, every, firstFailing, oneTo}
-use Rattle.model.specs.Questions.{Answer, ok, refused, Told, done, Reply, Question, _unless_, inOrder, andThen}
+use Rattle.model.specs.Questions.{Answer, ok, refused, Told, done, holding, Reply, Question, _unless_, inOrder, andThen}
 use Rattle.model.specs.Book.{Book}
 use Rattle.model.specs.Transfers.{Exchange, contained, transferAt, exchangeOf}
 use Rattle.model.specs.Fairness.{Fair, isProper, Among}
 use Rattle.model.specs.Holdings.{State, gives, receives, isCovered, Covered, settled, sumTo, total}
 use Rattle.model.specs.Proof.{recordAt, next, asked, marked, recordQuestions, chain, judgeChain}
-use Rattle.model.specs.Calls.{settle, isSized, endsLimited, judging, replyTo}
+use Rattle.model.specs.Calls.{query, settle, accountQuestions, isSized, endsLimited, judging, replyTo}
 use Rattle.model.proofs.Tests.{T-eq, both}
 use Rattle.model.proofs.Places.{upTo-length, every-oneTo}
 use Rattle.model.proofs.Questions.{inOrder-ok, inOrder-met, andThen-ok}
@@ -53,7 +53,14 @@ settled-ok b s e p t h =
     let q = inOrder-ok ((22 unless isCovered s (exchangeOf e)) ∷ (23 unless endsLimited b s (exchangeOf e)) ∷ []) 0 (ok done) t (j .2) in
     record { sized = k .sized; among = k .among; isFair = passed-fair b (exchangeOf e) p (j .0) (k .among) (k .judged); covered = q .0 .0 }
 
--- it tells no more than that it is done
+-- judging and settling tell no more than that they are done
+pub judging-done : (b : Book) (e p : List ℕ) (t : Told) → judging b e p ≡ ok t → t ≡ done
+unfolding judgeChain
+judging-done b e p t h =
+    let j = andThen-ok (chain b (exchangeOf e) p (length (exchangeOf e)) 1 (replicate (length (exchangeOf e)) false) []) _ t (judged-ok b e p t h .judged) in
+    let r = inOrder-ok ((21 unless contained (j .0) (exchangeOf e)) ∷ []) 0 (ok done) t (j .2) .1 in
+    cc
+
 pub only-done : (b : Book) (s : State) (e p : List ℕ) (t : Told) → replyTo b s (settle e p) ≡ ok t → t ≡ done
 unfolding replyTo
 only-done b s e p t h =
@@ -61,6 +68,11 @@ only-done b s e p t h =
     let q = inOrder-ok ((22 unless isCovered s (exchangeOf e)) ∷ (23 unless endsLimited b s (exchangeOf e)) ∷ []) 0 (ok done) t (j .2) in
     let r = q .1 in
     cc
+
+-- a query that is not refused tells the holding
+pub query-tells : (b : Book) (s : State) (c k : ℕ) (t : Told) → replyTo b s (query c k) ≡ ok t → t ≡ holding (s .held c k)
+unfolding replyTo
+query-tells b s c k t h = let r = inOrder-ok (accountQuestions b c k) 0 (ok (holding (s .held c k))) t h .1 in cc
 
 -- ---- no settlement creates tokens, so no holding passes the limit of its kind's sum
 

@@ -4,7 +4,7 @@ use Prim.Native.Nat.{ℕ}
 use Rattle.model.specs.Lists.{every}
 use Rattle.model.specs.Questions.{done}
 use Rattle.model.specs.Grammar.{rule, wellFormed, isVariable}
-use Rattle.model.specs.Opening.{bookOf}
+use Rattle.model.specs.Opening.{openedBook}
 use Rattle.model.specs.Fairness.{variables}
 use Rattle.model.specs.Calls.{issue, redeem, settle}
 use Rattle.model.specs.History.{stateAfter, replyAfter}
@@ -47,20 +47,20 @@ pub soundness : Soundness
 soundness = Sound.soundness
 
 -- what every opened text leaves of a book
-pub shaped : (text : List ℕ) → Complete.Shaped (bookOf text)
+pub shaped : (text : List ℕ) → Complete.Shaped (openedBook text)
 shaped text =
     let o = Texts.opened-book text in
     record {
       cards≤ = o .cards≤;
       rules≤ = o .rules≤;
-      lettered = every-map (λ r. wellFormed (rule r)) (λ r. every isVariable (variables r)) rule-letters (bookOf text .rules) (o .formed);
+      lettered = every-map (λ r. wellFormed (rule r)) (λ r. every isVariable (variables r)) rule-letters (openedBook text .rules) (o .formed);
     }
 
 pub completeness : Completeness
-completeness text = Complete.complete (bookOf text) (shaped text)
+completeness text = Complete.complete (openedBook text) (shaped text)
 
 pub fairness-decided : FairnessDecided
-fairness-decided text = Deciding.decides (bookOf text) (shaped text .lettered)
+fairness-decided text = Deciding.decides (openedBook text) (shaped text .lettered)
 
 -- ---- sums of a kind
 
@@ -68,19 +68,19 @@ pub conservation : Conservation
 unfolding replyAfter
 conservation = record {
   settling = λ text s e p k h.
-      rw (Conserved.after-ok (bookOf text) s (settle e p) done h) (Conserved.settling-keeps (bookOf text) (shaped text .cards≤) s e p k done h);
+      rw (Conserved.after-ok (openedBook text) s (settle e p) done h) (Conserved.settling-keeps (openedBook text) (shaped text .cards≤) s e p k done h);
   issuing = λ text s c j n k h.
-      rw (Conserved.after-ok (bookOf text) s (issue c j n) done h) (Conserved.issuing-adds (bookOf text) (shaped text .cards≤) s c j n k done h);
+      rw (Conserved.after-ok (openedBook text) s (issue c j n) done h) (Conserved.issuing-adds (openedBook text) (shaped text .cards≤) s c j n k done h);
   redeeming = λ text s c j n k h.
-      rw (Conserved.after-ok (bookOf text) s (redeem c j n) done h) (Conserved.redeeming-takes (bookOf text) (shaped text .cards≤) s c j n k done h);
+      rw (Conserved.after-ok (openedBook text) s (redeem c j n) done h) (Conserved.redeeming-takes (openedBook text) (shaped text .cards≤) s c j n k done h);
   never23 = λ text h e p i.
-      Settling.never-23 (bookOf text) (shaped text .cards≤) (stateAfter (bookOf text) h) (History.kept (bookOf text) (shaped text) h .limit) e p i;
+      Settling.never-23 (openedBook text) (shaped text .cards≤) (stateAfter (openedBook text) h) (History.kept (openedBook text) (shaped text) h .limit) e p i;
 }
 
 -- ---- histories
 
 pub every-history : EveryHistory
-every-history text h = History.histories (bookOf text) (shaped text) h
+every-history text h = History.histories (openedBook text) (shaped text) h
 
 -- ---- counting
 

@@ -51,8 +51,8 @@ abbrev pub D : ℕ
 D = 4
 
 -- 1 A 2: card 1 gives kind A to card 2
-abbrev pub transfer : ℕ → ℕ → ℕ → Transfer
-transfer m k n = record { giver = m; kind = k; receiver = n }
+abbrev pub giving : ℕ → ℕ → ℕ → Transfer
+giving m k n = record { giver = m; kind = k; receiver = n }
 
 -- an exchange as bytes
 abbrev pub bytesOf : Exchange → List ℕ
@@ -69,7 +69,7 @@ digits s = map (λ x. x - code "0") (ascii s)
 -- ---- rows and what they say
 
 pub data Row : Type 0 where
-  passes fails : String → Row
+  passesLuhn failsLuhn : String → Row
   fair unfair : Exchange → Row
   judged : Exchange → List ℕ → ℕ → ℕ → Row
   replied : History → Call → Reply → Row
@@ -78,8 +78,8 @@ pub data Row : Type 0 where
 
 -- over the book b
 abbrev pub Says : Book → Row → Type 0
-Says b (passes ds) = luhn (digits ds) ≡ true
-Says b (fails ds) = luhn (digits ds) ≡ false
+Says b (passesLuhn ds) = luhn (digits ds) ≡ true
+Says b (failsLuhn ds) = luhn (digits ds) ≡ false
 Says b (fair X) = Fair b X
 Says b (unfair X) = Fair b X → ⊥
 Says b (judged X p n i) = judging b (bytesOf X) p ≡ refused n i
@@ -91,7 +91,7 @@ Says b (opensNot t n i) = opening t ≡ refused n i
 
 -- P8's exchange, its proof by the rules 7, 8, 4, 5, and issues to its givers
 abbrev pub swap8 : Exchange
-swap8 = transfer 1 A 2 ∷ transfer 2 D 1 ∷ transfer 2 B 3 ∷ transfer 3 D 2 ∷ []
+swap8 = giving 1 A 2 ∷ giving 2 D 1 ∷ giving 2 B 3 ∷ giving 3 D 2 ∷ []
 
 abbrev pub settle8 : Call
 settle8 = settle (bytesOf swap8) (proofRecord 2 1 7 2 2 ++ proofRecord 3 2 8 1 0 ++ proofRecord 4 3 4 3 0 ++ proofRecord 0 4 5 2 2)
@@ -100,31 +100,31 @@ abbrev pub issues8 : History
 issues8 = start ▸ issue 1 A 1 ▸ issue 2 B 1 ▸ issue 3 D 1
 
 abbrev pub swap6 : Exchange
-swap6 = transfer 3 D 2 ∷ transfer 1 B 3 ∷ transfer 2 B 3 ∷ []
+swap6 = giving 3 D 2 ∷ giving 1 B 3 ∷ giving 2 B 3 ∷ []
 
 abbrev pub table : List Row
 table =
     -- P1, P2
-    passes "700012000019" ∷
-    fails "700012000018" ∷
+    passesLuhn "700012000019" ∷
+    failsLuhn "700012000018" ∷
     -- P3, P4: the ring, and without 3 C 1
-    fair (transfer 1 A 2 ∷ transfer 2 B 3 ∷ transfer 3 C 1 ∷ []) ∷
-    unfair (transfer 1 A 2 ∷ transfer 2 B 3 ∷ []) ∷
+    fair (giving 1 A 2 ∷ giving 2 B 3 ∷ giving 3 C 1 ∷ []) ∷
+    unfair (giving 1 A 2 ∷ giving 2 B 3 ∷ []) ∷
     -- P5
-    fair (transfer 3 D 2 ∷ transfer 1 B 3 ∷ []) ∷
+    fair (giving 3 D 2 ∷ giving 1 B 3 ∷ []) ∷
     -- P6: one D pays twice; by the rules 5, 6, 4 it is 21
     unfair swap6 ∷
     judged swap6 (proofRecord 2 1 5 2 1 ++ proofRecord 3 2 6 3 2 ++ proofRecord 0 3 4 3 0) 21 0 ∷
     -- P7: with a second 3 D 2
-    fair (swap6 ++ (transfer 3 D 2 ∷ [])) ∷
+    fair (swap6 ++ (giving 3 D 2 ∷ [])) ∷
     -- P8: fair, yet 22 while card 2 holds no D, though it holds B; settled once it holds one
     fair swap8 ∷
     replied issues8 settle8 (refused 22 0) ∷
     replied (issues8 ▸ issue 2 D 1) settle8 (ok done) ∷
     -- P9: 2 B 1 by rule 4 with a = 1
-    judged (transfer 2 B 1 ∷ []) (proofRecord 0 1 4 1 0) 19 1 ∷
+    judged (giving 2 B 1 ∷ []) (proofRecord 0 1 4 1 0) 19 1 ∷
     -- P10: 1 A 2 by rule 1 with a = 2, b = 1
-    judged (transfer 1 A 2 ∷ []) (proofRecord 0 1 1 2 1) 18 1 ∷
+    judged (giving 1 A 2 ∷ []) (proofRecord 0 1 1 2 1) 18 1 ∷
     -- P11, P12
     opensEmpty [] ∷
     opensNot (lines ("C 700012000019" ∷ "C 700012000019" ∷ [])) 5 2 ∷ []

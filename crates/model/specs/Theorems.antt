@@ -13,7 +13,7 @@ use Rattle.model.specs.Questions.{ok, refused, done}
 use Rattle.model.specs.Grammar.{Line, group, printLine, printText, wellFormed, InGrammar}
 use Rattle.model.specs.Reader.{readLine, hasNoLF, cut}
 use Rattle.model.specs.Book.{Book, noBook}
-use Rattle.model.specs.Opening.{withLine, addLine, addLines, opening, bookOf}
+use Rattle.model.specs.Opening.{withLine, addLine, addLines, opening, openedBook}
 use Rattle.model.specs.Transfers.{Exchange, _~_, exchangeOf}
 use Rattle.model.specs.Fairness.{Fair, Among}
 use Rattle.model.specs.Holdings.{State, Covered, MovedExactly, sumTo, total}
@@ -28,7 +28,7 @@ use Rattle.model.specs.Decision.{isFair}
 abbrev pub LinesRead : Type 0
 LinesRead = (w : List ℕ) (l : Line) → (readLine w ≡ some l) ↔ ((printLine l ≡ w) × T (wellFormed l))
 
--- a text is cut at its LFs and nowhere else: the lines, each with its LF, and what stands behind the last one are the text
+-- a text is cut at its LFs and nowhere else: the lines, each with its LF, and what follows the last one are the text
 pub record CutAtLF (t : List ℕ) : Type 0 where
   pub whole : each (λ w. w ++ ascii "\n") (cut t .lines) ++ cut t .last ≡ t
   pub lines : T (every hasNoLF (cut t .lines))
@@ -89,25 +89,25 @@ pub record ProofOf (b : Book) (X : Exchange) : Type 0 where
 -- limits: 32 cards, 56 rules, the variables a to h.
 abbrev pub Completeness : Type 0
 Completeness =
-    (text : List ℕ) (X : Exchange) → Among (bookOf text) X → 1 ≤ length X → length X * transferSize ≤ exchangeLimit
-    → Fair (bookOf text) X → ProofOf (bookOf text) X
+    (text : List ℕ) (X : Exchange) → Among (openedBook text) X → 1 ≤ length X → length X * transferSize ≤ exchangeLimit
+    → Fair (openedBook text) X → ProofOf (openedBook text) X
 
 abbrev pub FairnessDecided : Type 0
-FairnessDecided = (text : List ℕ) (X : Exchange) → Among (bookOf text) X → T (isFair (bookOf text) X) ↔ Fair (bookOf text) X
+FairnessDecided = (text : List ℕ) (X : Exchange) → Among (openedBook text) X → T (isFair (openedBook text) X) ↔ Fair (openedBook text) X
 
 -- ---- Sums of a kind
 
 pub record Conservation : Type 0 where
   -- no settlement creates or destroys tokens
-  pub settling : (text : List ℕ) (s : State) (e p : List ℕ) (k : ℕ) → replyTo (bookOf text) s (settle e p) ≡ ok done
-      → total (after (bookOf text) s (settle e p)) k ≡ total s k
+  pub settling : (text : List ℕ) (s : State) (e p : List ℕ) (k : ℕ) → replyTo (openedBook text) s (settle e p) ≡ ok done
+      → total (after (openedBook text) s (settle e p)) k ≡ total s k
   -- other kinds stay: `amount c j n c k` is n where k is j, else 0
-  pub issuing : (text : List ℕ) (s : State) (c j n k : ℕ) → replyTo (bookOf text) s (issue c j n) ≡ ok done
-      → total (after (bookOf text) s (issue c j n)) k ≡ total s k + amount c j n c k
-  pub redeeming : (text : List ℕ) (s : State) (c j n k : ℕ) → replyTo (bookOf text) s (redeem c j n) ≡ ok done
-      → total (after (bookOf text) s (redeem c j n)) k + amount c j n c k ≡ total s k
+  pub issuing : (text : List ℕ) (s : State) (c j n k : ℕ) → replyTo (openedBook text) s (issue c j n) ≡ ok done
+      → total (after (openedBook text) s (issue c j n)) k ≡ total s k + amount c j n c k
+  pub redeeming : (text : List ℕ) (s : State) (c j n k : ℕ) → replyTo (openedBook text) s (redeem c j n) ≡ ok done
+      → total (after (openedBook text) s (redeem c j n)) k + amount c j n c k ≡ total s k
   -- question 23 is never the first that is answered no
-  pub never23 : (text : List ℕ) (h : History) (e p : List ℕ) (i : ℕ) → replyAfter (bookOf text) h (settle e p) ≢ refused 23 i
+  pub never23 : (text : List ℕ) (h : History) (e p : List ℕ) (i : ℕ) → replyAfter (openedBook text) h (settle e p) ≢ refused 23 i
 
 -- ---- Histories
 
@@ -130,7 +130,7 @@ pub record Histories (b : Book) (h : History) : Type 0 where
 
 -- for every text, refused ones too, and every list of calls
 abbrev pub EveryHistory : Type 0
-EveryHistory = (text : List ℕ) (h : History) → Histories (bookOf text) h
+EveryHistory = (text : List ℕ) (h : History) → Histories (openedBook text) h
 
 -- ---- Counting is permutation, as the library defines it
 

@@ -7,7 +7,7 @@ use libc::STDOUT_FILENO;
 use session::Session;
 ghost use mathlib.Core.Path.{_≡_};
 ghost use lib.ListN.{length};
-ghost use Rattle.ringswap.specs.Bounds.{Within};
+ghost use Rattle.ringswap.specs.inner.Bounds.{InBuffer};
 
 // What reading a file gives: so many bytes of it, or that it cannot be read.
 enum Text {
@@ -17,7 +17,7 @@ enum Text {
 
 // A file's bytes from its start, as far as there is room.
 fn read_text(file: i32, text: &mut [u8]) -> Text
-    ensures { λ r. ⌜ Within r (now (text .exit)) ⌝ }
+    ensures { λ r. ⌜ InBuffer r (now (text .exit)) ⌝ }
 {
     let mut size = 0;
     while size < text.len() {
@@ -35,7 +35,7 @@ fn read_text(file: i32, text: &mut [u8]) -> Text
 }
 
 fn read_book(text: &mut [u8]) -> Text
-    ensures { λ r. ⌜ Within r (now (text .exit)) ⌝ }
+    ensures { λ r. ⌜ InBuffer r (now (text .exit)) ⌝ }
 {
     let file = os::open_read(b"book.txt");
     if file < 0 {

@@ -1,23 +1,25 @@
 -- What a line's form gives, and what the first question that is not met leaves.
-use mathlib.Core.Path.{_≡_, refl, sym, _∙_, ap}
+use mathlib.Core.Path.{_≡_, refl}
 use mathlib.Core.Bool.{Bool, true, false, _&&_, cond}
 use mathlib.Core.List.{List, map}
-use Prim.Native.Nat.{ℕ, _+_, _*_, _-_, _≤_, _<_}
+use Prim.Native.Nat.{ℕ, suc, _+_, _*_, _-_, _≤_, _<_}
 use native.Mathlib.Omega.{arith}
 use lib.Dec.{eqb, leb, ltb}
-use lib.ListN.{length, getD, set, take, drop, length-map}
-use lib.Seq.{paste}
+use lib.ListN.{length, getD, take, drop}
 use borrow.Author.Tests.{lt-ltb, le-ltb, le-leb, lt-leb, ltb-true, leb-true}
-use Rattle.model.specs.Lists.{any, eqList, upTo}
+use Rattle.model.specs.Limits.{leastDigits, mostDigits}
+use Rattle.model.specs.Lists.{any, eqList}
+use Rattle.model.specs.Questions.{Question, firstUnmet}
 use Rattle.model.specs.CardNumbers.{luhn}
 use Rattle.model.specs.Reader.{groupOf, digitOf, widthOf, numberOf, numberWidth, numberAt, spaceAt, isCardLine, cardDigits, isGroupLine, hasHead, ownerEnd, ruleEnd, isRuleLine, kindOf, variableOf}
 use Rattle.model.specs.Opening.{isCardNumber}
 use Rattle.model.proofs.Tests.{both-true}
 use Rattle.model.proofs.Places.{upTo-length}
-use Rattle.rulebook.specs.View.{cardView}
-use Rattle.rulebook.specs.Rows.{rowOf}
-use Rattle.rulebook.specs.Lines.{CardTaken, GroupTaken, RuleTaken}
-use Rattle.forms.proofs.Digits.{to-end}
+use Rattle.rulebook.specs.View.{cardCount, ruleCount, cardView, cardsOf}
+use Rattle.rulebook.specs.inner.Rows.{rowOf}
+use Rattle.rulebook.specs.inner.Lines.{AddedUnless, CardTaken, GroupTaken, RuleTaken}
+use Rattle.rulebook.specs.inner.Writes.{CardAdded, MemberAdded, RuleAdded}
+use Rattle.model.proofs.Places.{to-end}
 
 -- ---- what a form gives
 
@@ -25,22 +27,16 @@ pub card-long : (w : List ℕ) → isCardLine w ≡ true → 2 < length w
 unfolding isCardLine
 card-long w h = ltb-true 2 (length w) (both-true (ltb 2 (length w)) _ h .0)
 
--- the bytes of a card line's digits, as the program takes them
-abbrev pub digitBytes : List ℕ → List ℕ
-digitBytes w = take (length w - 2) (drop 2 w)
-
-digits-of : (w : List ℕ) → map digitOf (digitBytes w) ≡ cardDigits w
+-- the digits of a card line, from its bytes as the program takes them
+pub digits-of : (w : List ℕ) → map digitOf (take (length w - 2) (drop 2 w)) ≡ cardDigits w
 unfolding cardDigits
 digits-of w = rw (to-end w 2)
 
-pub number-size : (s : List ℕ) → isCardNumber (map digitOf s) ≡ true → (12 ≤ length s) × (length s ≤ 19)
-number-size s h =
-    let n = length-map s digitOf in
-    let a = both-true (leb 12 (length (map digitOf s)) && leb (length (map digitOf s)) 19) (luhn (map digitOf s)) h in
-    let b = both-true (leb 12 (length (map digitOf s))) (leb (length (map digitOf s)) 19) (a .0) in
-    let low = leb-true 12 (length (map digitOf s)) (b .0) in
-    let high = leb-true (length (map digitOf s)) 19 (b .1) in
-    (omega arith, omega arith)
+pub number-size : (ds : List ℕ) → isCardNumber ds ≡ true → (leastDigits ≤ length ds) × (length ds ≤ mostDigits)
+number-size ds h =
+    let a = both-true (leb leastDigits (length ds) && leb (length ds) mostDigits) (luhn ds) h in
+    let b = both-true (leb leastDigits (length ds)) (leb (length ds) mostDigits) (a .0) in
+    (leb-true leastDigits (length ds) (b .0), leb-true (length ds) mostDigits (b .1))
 
 pub group-small : (x : ℕ) → groupOf x ≤ 8
 unfolding groupOf
@@ -94,94 +90,66 @@ owner-low w h =
     let a = both-true (spaceAt w 1) (leb 1 (numberWidth w 2) && rest) (headed w h) in
     number-at-low w 2 (both-true (leb 1 (numberWidth w 2)) rest (a .1) .0)
 
--- ---- a card line, by the first question that is not met
+-- ---- what a question that is not met leaves, and a line that meets all
 
-module _ {w : List ℕ} {cards : ℕ} {digits lengths : List ℕ} where
-  pub card-no-form : isCardLine w ≡ false → CardTaken w cards digits lengths 2 cards digits lengths
-  card-no-form e = record { refusal-is = rw e; cards-is = refl; digits-is = refl; lengths-is = refl }
+refuses : {questions : List Question} {Added : List ℕ → Type 0} {n : ℕ} {t : List ℕ} → n ≡ firstUnmet questions → 1 ≤ n → AddedUnless questions Added n t t
+refuses e l = record { refusal-is = e; added = λ z. absurd (omega arith); kept = λ p. refl }
+
+takes : {questions : List Question} {Added : List ℕ → Type 0} {t t′ : List ℕ} → 0 ≡ firstUnmet questions → Added t′ → AddedUnless questions Added 0 t t′
+takes e a = record { refusal-is = e; added = λ z. a; kept = λ p. absurd (p refl) }
+
+-- ---- a card line
+
+pub how-many : (cards : List ℕ) → length (cardsOf cards) ≡ cardCount cards
+how-many cards = upTo-length (λ i. cardView cards (suc i)) (cardCount cards)
+
+module _ {w cards : List ℕ} where
+  pub card-no-form : isCardLine w ≡ false → CardTaken w cards 2 cards
+  card-no-form e = record { asked = refuses (rw e) (omega arith) }
 
   module _ (formed : isCardLine w ≡ true) where
-    pub cards-full : 32 ≤ cards → CardTaken w cards digits lengths 3 cards digits lengths
-    cards-full l = record {
-      refusal-is = rw (formed, upTo-length (cardView digits lengths) cards, le-ltb cards 32 l);
-      cards-is = refl;
-      digits-is = refl;
-      lengths-is = refl;
-    }
+    pub cards-full : 32 ≤ cardCount cards → CardTaken w cards 3 cards
+    cards-full l = record { asked = refuses (rw (formed, how-many cards, le-ltb (cardCount cards) 32 l)) (omega arith) }
 
-    module _ (room : cards < 32) where
-      pub card-wrong : isCardNumber (map digitOf (digitBytes w)) ≡ false → CardTaken w cards digits lengths 4 cards digits lengths
-      card-wrong e = record {
-        refusal-is = rw (formed, upTo-length (cardView digits lengths) cards, lt-ltb cards 32 room, rw (digits-of w) at e);
-        cards-is = refl;
-        digits-is = refl;
-        lengths-is = refl;
-      }
+    module _ (room : cardCount cards < 32) where
+      pub card-wrong : isCardNumber (cardDigits w) ≡ false → CardTaken w cards 4 cards
+      card-wrong e = record { asked = refuses (rw (formed, how-many cards, lt-ltb (cardCount cards) 32 room, e)) (omega arith) }
 
-      module _ (number : isCardNumber (map digitOf (digitBytes w)) ≡ true) where
-        pub card-repeated : any (eqList (map digitOf (digitBytes w))) (upTo (cardView digits lengths) cards) ≡ true → CardTaken w cards digits lengths 5 cards digits lengths
-        card-repeated e = record {
-          refusal-is = rw (formed, upTo-length (cardView digits lengths) cards, lt-ltb cards 32 room, rw (digits-of w) at number, rw (digits-of w) at e);
-          cards-is = refl;
-          digits-is = refl;
-          lengths-is = refl;
-        }
+      module _ (number : isCardNumber (cardDigits w) ≡ true) where
+        pub card-repeated : any (eqList (cardDigits w)) (cardsOf cards) ≡ true → CardTaken w cards 5 cards
+        card-repeated e = record { asked = refuses (rw (formed, how-many cards, lt-ltb (cardCount cards) 32 room, number, e)) (omega arith) }
 
-        pub card-taken : any (eqList (map digitOf (digitBytes w))) (upTo (cardView digits lengths) cards) ≡ false → {digits′ : List ℕ} → digits′ ≡ paste digits (cards * 19) (map digitOf (digitBytes w)) (length (digitBytes w))
-            → CardTaken w cards digits lengths 0 (cards + 1) digits′ (set lengths cards (length (digitBytes w)))
-        card-taken e d =
-            let n : length (digitBytes w) ≡ length (cardDigits w) = sym (length-map (digitBytes w) digitOf) ∙ ap length (digits-of w) in
-            record {
-              refusal-is = rw (formed, upTo-length (cardView digits lengths) cards, lt-ltb cards 32 room, rw (digits-of w) at number, rw (digits-of w) at e);
-              cards-is = refl;
-              digits-is = rw (digits-of w, n) at d;
-              lengths-is = rw n;
-            }
+        pub card-taken : any (eqList (cardDigits w)) (cardsOf cards) ≡ false → {cards′ : List ℕ} → CardAdded (cardDigits w) cards cards′ → CardTaken w cards 0 cards′
+        card-taken e a = record { asked = takes (rw (formed, how-many cards, lt-ltb (cardCount cards) 32 room, number, e)) a }
 
 -- ---- a group line
 
-module _ {w : List ℕ} {cards : ℕ} {groups : List ℕ} where
-  pub group-no-form : isGroupLine w ≡ false → GroupTaken w cards groups 2 groups
-  group-no-form e = record { refusal-is = rw e; groups-is = refl }
+module _ {w cards : List ℕ} where
+  pub group-no-form : isGroupLine w ≡ false → GroupTaken w cards 2 cards
+  group-no-form e = record { asked = refuses (rw e) (omega arith) }
 
   module _ (formed : isGroupLine w ≡ true) where
-    pub group-not-above : cards < numberAt w 4 → GroupTaken w cards groups 6 groups
-    group-not-above l = record {
-      refusal-is = rw (formed, le-leb 1 (numberAt w 4) (grouped w formed .card-low), lt-leb (numberAt w 4) cards l);
-      groups-is = refl;
-    }
+    pub group-not-above : cardCount cards < numberAt w 4 → GroupTaken w cards 6 cards
+    group-not-above l =
+        record { asked = refuses (rw (formed, le-leb 1 (numberAt w 4) (grouped w formed .card-low), lt-leb (numberAt w 4) (cardCount cards) l)) (omega arith) }
 
-    pub group-taken : numberAt w 4 ≤ cards → GroupTaken w cards groups 0 (set groups ((numberAt w 4 - 1) * 8 + (groupOf (getD w 2 0) - 1)) 1)
-    group-taken l = record {
-      refusal-is = rw (formed, le-leb 1 (numberAt w 4) (grouped w formed .card-low), le-leb (numberAt w 4) cards l);
-      groups-is = refl;
-    }
+    pub group-taken : numberAt w 4 ≤ cardCount cards → {cards′ : List ℕ} → MemberAdded (groupOf (getD w 2 0)) (numberAt w 4) cards cards′ → GroupTaken w cards 0 cards′
+    group-taken l a = record { asked = takes (rw (formed, le-leb 1 (numberAt w 4) (grouped w formed .card-low), le-leb (numberAt w 4) (cardCount cards) l)) a }
 
 -- ---- a rule line
 
-module _ {w : List ℕ} {cards rules : ℕ} {rows : List ℕ} where
-  pub rule-no-form : isRuleLine w ≡ false → RuleTaken w cards rules rows 2 rules rows
-  rule-no-form e = record { refusal-is = rw e; rules-is = refl; rows-is = refl }
+module _ {w : List ℕ} {cards : ℕ} {rules : List ℕ} where
+  pub rule-no-form : isRuleLine w ≡ false → RuleTaken w cards rules 2 rules
+  rule-no-form e = record { asked = refuses (rw e) (omega arith) }
 
   module _ (formed : isRuleLine w ≡ true) where
-    pub rule-not-above : cards < numberAt w 2 → RuleTaken w cards rules rows 6 rules rows
-    rule-not-above l = record {
-      refusal-is = rw (formed, le-leb 1 (numberAt w 2) (owner-low w formed), lt-leb (numberAt w 2) cards l);
-      rules-is = refl;
-      rows-is = refl;
-    }
+    pub rule-not-above : cards < numberAt w 2 → RuleTaken w cards rules 6 rules
+    rule-not-above l = record { asked = refuses (rw (formed, le-leb 1 (numberAt w 2) (owner-low w formed), lt-leb (numberAt w 2) cards l)) (omega arith) }
 
     module _ (above : numberAt w 2 ≤ cards) where
-      pub rules-full : 56 ≤ rules → RuleTaken w cards rules rows 7 rules rows
-      rules-full l = record {
-        refusal-is = rw (formed, le-leb 1 (numberAt w 2) (owner-low w formed), le-leb (numberAt w 2) cards above, le-ltb rules 56 l);
-        rules-is = refl;
-        rows-is = refl;
-      }
+      pub rules-full : 56 ≤ ruleCount rules → RuleTaken w cards rules 7 rules
+      rules-full l =
+          record { asked = refuses (rw (formed, le-leb 1 (numberAt w 2) (owner-low w formed), le-leb (numberAt w 2) cards above, le-ltb (ruleCount rules) 56 l)) (omega arith) }
 
-      pub rule-taken : rules < 56 → {rows′ : List ℕ} → rows′ ≡ paste rows (rules * 32) (rowOf w) 32 → RuleTaken w cards rules rows 0 (rules + 1) rows′
-      rule-taken l e = record {
-        refusal-is = rw (formed, le-leb 1 (numberAt w 2) (owner-low w formed), le-leb (numberAt w 2) cards above, lt-ltb rules 56 l);
-        rules-is = refl;
-        rows-is = e;
-      }
+      pub rule-taken : ruleCount rules < 56 → {rules′ : List ℕ} → RuleAdded (rowOf w) rules rules′ → RuleTaken w cards rules 0 rules′
+      rule-taken l a = record { asked = takes (rw (formed, le-leb 1 (numberAt w 2) (owner-low w formed), le-leb (numberAt w 2) cards above, lt-ltb (ruleCount rules) 56 l)) a }

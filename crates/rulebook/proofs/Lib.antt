@@ -1,7 +1,10 @@
 pub mod Books
+pub mod Written
+pub mod Parts
 pub mod Known
 pub mod Rows
 pub mod Grown
 pub mod Forms
 pub mod Lines
 pub mod Texts
+pub mod Exists

@@ -1,5 +1,5 @@
 -- A text from a place on, line by line.
-use mathlib.Core.Path.{_≡_, refl, sym, _∙_}
+use mathlib.Core.Path.{_≡_, refl, sym, _∙_, ap}
 use mathlib.Core.Bool.{Bool, true, false}
 use mathlib.Core.List.{List, [], _∷_}
 use Prim.Native.Char.{code}
@@ -11,20 +11,20 @@ use lib.Seq.{drop-length, drop-drop}
 use borrow.Author.Tests.{le-leb, lt-leb, ne-eqb}
 use Rattle.model.specs.Lists.{until}
 use Rattle.model.specs.Questions.{Answer, ok, refused, andThen}
-use Rattle.model.specs.Reader.{Cut, cut}
+use Rattle.model.specs.Reader.{CutText, cut}
 use Rattle.model.specs.Book.{Book}
 use Rattle.model.specs.Opening as model
 use Rattle.model.specs.Opening.{openLine, openLines, opening}
 use Rattle.answers.specs.declared.Answer.the-variants.{Done, Refused}
 use Rattle.rulebook.specs.View.{bookOf}
 use Rattle.rulebook.specs.Reads.{noTables, Reads}
-use Rattle.rulebook.specs.Lines.{Sized, Taken}
+use Rattle.rulebook.specs.inner.Lines.{Sized, Empty, LineTaken}
 use Rattle.rulebook.specs.declared.Tables.{Tables}
 use Rattle.rulebook.proofs.Grown.{no-tables}
 
 -- ---- the text cut at its first LF
 
-abbrev firstCut : List ℕ → Cut
+abbrev firstCut : List ℕ → CutText
 firstCut xs = let n = until (code "\n") xs in record { lines = take n xs ∷ cut (drop (suc n) xs) .lines; last = cut (drop (suc n) xs) .last }
 
 cut-line : (xs : List ℕ) → until (code "\n") xs < length xs → cut xs ≡ firstCut xs
@@ -54,21 +54,21 @@ pub too-long : (text : List ℕ) → 16_384 < length text → opening text ≡ r
 unfolding opening
 too-long text l = rw (lt-leb (length text) 16_384 l)
 
-pub starts : (text : List ℕ) → length text ≤ 16_384 → openFrom text 0 1 (bookOf noTables) ≡ opening text
+pub starts : (text : List ℕ) → length text ≤ 16_384 → {cards rules : List ℕ} → Empty cards rules → openFrom text 0 1 (bookOf cards rules) ≡ opening text
 unfolding openFrom opening
-starts text l = rw (no-tables, le-leb (length text) 16_384 l)
+starts text l e = rw (no-tables e, le-leb (length text) 16_384 l)
 
 pub all-read : (text : List ℕ) (at i : ℕ) (b : Book) → openFrom text at i b ≡ opening text → at ≡ length text → opening text ≡ ok b
 unfolding openFrom openLines cut
 all-read text at i b h e = sym h ∙ rw (e, drop-length text)
 
--- a turn at the place at, over the tables t, where the line ends at the place end
-pub record Turn (text : List ℕ) (at i end : ℕ) (t : Tables) : Type 0 where
-  pub so-far : openFrom text at i (bookOf t) ≡ opening text
+-- a turn at the place at, over the two tables, where the line ends at the place end
+pub record Turn (text : List ℕ) (at i end : ℕ) (cards rules : List ℕ) : Type 0 where
+  pub so-far : openFrom text at i (bookOf cards rules) ≡ opening text
   pub within : at < length text
   pub ends : end ≡ at + until (code "\n") (drop at text)
 
-module _ {text : List ℕ} {at i end : ℕ} {t : Tables} (turn : Turn text at i end t) where
+module _ {text : List ℕ} {at i end : ℕ} {cards rules : List ℕ} (turn : Turn text at i end cards rules) where
   pub no-LF : end ≡ length text → opening text ≡ refused 2 i
   unfolding openFrom openLines
   no-LF p =
@@ -81,7 +81,7 @@ module _ {text : List ℕ} {at i end : ℕ} {t : Tables} (turn : Turn text at i 
     abbrev line : List ℕ
     line = take (end - at) (drop at text)
 
-    line-first : opening text ≡ andThen (openLine i (bookOf t) line) (λ b. openFrom text (end + 1) (i + 1) b)
+    line-first : opening text ≡ andThen (openLine i (bookOf cards rules) line) (λ b. openFrom text (end + 1) (i + 1) b)
     unfolding openFrom openLines
     line-first =
         let n = length-drop at text in
@@ -90,22 +90,25 @@ module _ {text : List ℕ} {at i end : ℕ} {t : Tables} (turn : Turn text at i 
         let s : at + suc (end - at) ≡ end + 1 = omega arith in
         sym (turn .so-far) ∙ rw (cut-line (drop at text) (omega arith), k, drop-drop (suc (end - at)) at text, s)
 
-    module _ {t′ : Tables} {r : ℕ} (taken : Taken line t t′ r) where
+    module _ {cards′ rules′ : List ℕ} {r : ℕ} (taken : LineTaken line cards rules r cards′ rules′) where
       pub line-refused : (r ≡ 0 → ⊥) → opening text ≡ refused r i
       line-refused z = line-first ∙ rw (sym (taken .answer i), ne-eqb r 0 z)
 
-      pub line-read : r ≡ 0 → openFrom text (end + 1) (i + 1) (bookOf t′) ≡ opening text
+      pub line-read : r ≡ 0 → openFrom text (end + 1) (i + 1) (bookOf cards′ rules′) ≡ opening text
       line-read z = sym (line-first ∙ rw (sym (taken .answer i), z))
 
 -- ---- what `read` returns
 
-pub reads-refused : {text : List ℕ} {n i : ℕ} → opening text ≡ refused n i → Reads (record { answer = Refused n i; tables = noTables }) text
-unfolding model.bookOf
-reads-refused o = record { answer = sym o; book = rw o no-tables; cleared = λ n i e. refl }
+pub empty : Empty (noTables .cards) (noTables .rules)
+empty = record { no-cards = refl; no-rules = refl }
 
-pub reads-done : {text : List ℕ} {t : Tables} → opening text ≡ ok (bookOf t) → Reads (record { answer = Done; tables = t }) text
-unfolding model.bookOf
+pub reads-refused : {text : List ℕ} {n i : ℕ} → opening text ≡ refused n i → Reads (record { answer = Refused n i; tables = noTables }) text
+unfolding model.openedBook
+reads-refused o = record { answer = sym o; book = rw o (no-tables empty); cleared = λ n i e. refl }
+
+pub reads-done : {text : List ℕ} {t : Tables} → opening text ≡ ok (bookOf (t .cards) (t .rules)) → Reads (record { answer = Done; tables = t }) text
+unfolding model.openedBook
 reads-done o = record { answer = sym o; book = rw o; cleared = λ n i e. absurd (let z : _≡_ {A = ℕ} 0 1 = cc in omega arith) }
 
-pub empty-sized : Sized noTables
-empty-sized = record { cards = omega arith; digits = refl; lengths = refl; groups = refl; rules = omega arith; rows = refl }
+pub empty-sized : {cards rules : List ℕ} → Empty cards rules → Sized cards rules
+empty-sized e = record { cards-size = ap length (e .no-cards); rules-size = ap length (e .no-rules) }

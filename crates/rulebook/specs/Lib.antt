@@ -1,4 +1,4 @@
+pub mod Layout
 pub mod View
 pub mod Reads
-pub mod Rows
-pub mod Lines
+pub mod inner

@@ -1,93 +1,58 @@
 // Card lines.
-use crate::CARD_LIMIT;
-use forms::LEAST_DIGITS;
-use forms::MOST_DIGITS;
+use crate::layout;
+use crate::layout::CardTable;
+use forms::CardNumber;
 ghost use mathlib.Core.Path.{_≡_};
-ghost use mathlib.Core.List.{map};
-ghost use Prim.Native.Nat.{_≤_, _<_, _*_, min, max};
+ghost use Prim.Native.Nat.{_≤_};
 ghost use lib.ListN.{length};
-ghost use lib.Seq.{paste};
-ghost use Rattle.model.specs.Limits.{cardLimit, leastDigits, mostDigits};
-ghost use Rattle.model.specs.Lists.{any, eqList, upTo};
-ghost use Rattle.model.specs.Reader.{digitOf};
-ghost use Rattle.rulebook.specs.View.{cardView};
-ghost use Rattle.rulebook.specs.Lines.{CardTaken};
+ghost use Rattle.model.specs.Limits.{mostDigits};
+ghost use Rattle.model.specs.Lists.{any, eqList};
+ghost use Rattle.forms.specs.Numbers.{digitsIn};
+ghost use Rattle.rulebook.specs.Layout.{cardTableSize};
+ghost use Rattle.rulebook.specs.View.{cardsOf};
+ghost use Rattle.rulebook.specs.inner.Lines.{CardTaken};
 
-// The number of a card's digits, as the view reads it.
-fn card_length(n: u8) -> usize
-    ensures { λ r. ⌜ r ≡ max leastDigits (min n mostDigits) ⌝ }
+// Whether a card of the table has the number's digits, each compared from the first on.
+fn is_known(number: CardNumber, cards: &CardTable) -> bool
+    requires { ⌜ number .count ≤ mostDigits ⌝ }
+    ensures { λ r. ⌜ r ≡ any (eqList (digitsIn number)) (cardsOf (now (cards .entry))) ⌝ }
 {
-    let length = n as usize;
-    if length < LEAST_DIGITS {
-        return LEAST_DIGITS;
-    }
-    if MOST_DIGITS < length {
-        return MOST_DIGITS;
-    }
-    length
-}
-
-// Whether one of the first n cards has the digits s.
-fn is_known(s: &[u8], n: usize, digits: &[u8; 608], lengths: &[u8; 32]) -> bool
-    requires { ⌜ (n ≤ cardLimit) × (length (now s) ≤ mostDigits) ⌝ }
-    ensures { λ r. ⌜ r ≡ any (eqList (map digitOf (now (s .entry)))) (upTo (cardView (now (digits .entry)) (now (lengths .entry))) n) ⌝ }
-{
+    let n = number.count as u8;
+    let digits = number.digits;
     let mut known = false;
-    'cards: for i in 0..n {
-        let count = card_length(lengths[i]);
-        if count != s.len() {
-            continue 'cards;
-        }
-        // From the last digit on: the first ones are the issuer's, which many cards share.
-        let mut d = count;
-        while 0 < d {
-            d -= 1;
-            if digits[i * MOST_DIGITS + d] != ascii::digit(s[d]) {
+    'cards: for i in 0..layout::card_count(cards) {
+        // To a constant bound, so that the compiler unrolls the loop.
+        for d in 0..limits::MOST_DIGITS {
+            if (d < n) & (layout::digit_at(cards, i + 1, d) != digits[d as usize]) {
                 continue 'cards;
             }
         }
-        known = true;
-        break 'cards;
+        if layout::card_length(cards, i + 1) == n {
+            known = true;
+            break 'cards;
+        }
     }
     known
 }
 
-// The digits of card n + 1.
-fn put_digits(digits: &mut [u8; 608], n: usize, s: &[u8])
-    requires { ⌜ (n < cardLimit) × (length (now s) ≤ mostDigits) × (length (now digits) ≡ 608) ⌝ }
-    ensures { λ r. ⌜ now (digits .exit) ≡ paste (now (digits .entry)) (n * mostDigits) (map digitOf (now (s .entry))) (length (now (s .entry))) ⌝ }
-{
-    for j in 0..s.len() {
-        digits[n * MOST_DIGITS + j] = ascii::digit(s[j]);
-    }
-}
-
 // Questions 2 to 5.
-pub(crate) fn take(
-    line: &[u8],
-    cards: &mut u8,
-    digits: &mut [u8; 608],
-    lengths: &mut [u8; 32],
-) -> u8
-    requires { ⌜ (now cards ≤ cardLimit) × (length (now digits) ≡ 608) × (length (now lengths) ≡ 32) ⌝ }
-    ensures { λ r. ⌜ CardTaken (now (line .entry)) (now (cards .entry)) (now (digits .entry)) (now (lengths .entry)) r (now (cards .exit)) (now (digits .exit)) (now (lengths .exit)) ⌝ }
+pub(crate) fn take(line: &[u8], cards: &mut CardTable) -> u8
+    requires { ⌜ length (now cards) ≡ cardTableSize ⌝ }
+    ensures { λ r. ⌜ CardTaken (now (line .entry)) (now (cards .entry)) r (now (cards .exit)) ⌝ }
 {
     if !forms::is_card_line(line) {
         return answers::NO_FORM;
     }
-    let n = *cards as usize;
-    if CARD_LIMIT <= n {
+    if limits::CARD_LIMIT <= layout::card_count(cards) {
         return answers::TOO_MANY_CARDS;
     }
-    let s = &line[2..];
-    if !forms::is_card_number(s) {
+    let number = forms::card_number(&line[2..]);
+    if !forms::is_card_number(number) {
         return answers::BAD_CARD_NUMBER;
     }
-    if is_known(s, n, digits, lengths) {
+    if is_known(number, cards) {
         return answers::CARD_REPEATED;
     }
-    put_digits(digits, n, s);
-    lengths[n] = s.len() as u8;
-    *cards += 1;
+    layout::add_card(cards, number);
     0
 }

@@ -9,6 +9,8 @@ mod replies;
 use answers::Answer;
 use answers::Reply;
 use engine::Engine;
+use rulebook::layout::card_count;
+use rulebook::layout::rule_count;
 ghost use Rattle.session.specs.Contracts.{Begins, Feeds, Finishes};
 
 // No answer is longer.
@@ -39,9 +41,9 @@ pub struct Fed {
 pub fn begin(text: &[u8], out: &mut [u8; 32]) -> Begun
     ensures { λ r. ⌜ Begins (now (text .entry)) (now (out .entry)) (now (out .exit)) r ⌝ }
 {
-    let reading = engine::open(text);
-    let answer = reading.answer;
-    let engine = reading.engine;
+    let opened = engine::open(text);
+    let answer = opened.answer;
+    let engine = opened.engine;
     let session = Session {
         engine,
         line: [0; 8193],
@@ -49,8 +51,8 @@ pub fn begin(text: &[u8], out: &mut [u8; 32]) -> Begun
     };
     match answer {
         Answer::Done => {
-            let cards = limits::at_most(engine.cards, limits::CARD_LIMIT);
-            let rules = limits::at_most(engine.rules, limits::RULE_LIMIT);
+            let cards = card_count(&engine.cards);
+            let rules = rule_count(&engine.rules);
             let count = commands::put_book(cards, rules, out);
             Begun {
                 session,
@@ -73,17 +75,14 @@ pub fn begin(text: &[u8], out: &mut [u8; 32]) -> Begun
 pub fn feed(session: Session, block: &[u8], out: &mut [u8]) -> Fed
     ensures { λ r. ⌜ Feeds session (now (block .entry)) (now (out .entry)) (now (out .exit)) r ⌝ }
 {
-    let taken = buffers::least(block.len(), out.len() / ANSWER_SIZE);
+    let taken = limits::least(block.len(), out.len() / ANSWER_SIZE);
     let engine = session.engine;
     let mut holdings = engine.holdings;
     let mut line = session.line;
-    let size = buffers::least(session.size, buffers::LINE_SIZE);
-    let kept = blocks::answer_block(
-        engine.cards,
-        &engine.digits,
-        &engine.groups,
-        engine.rules,
-        &engine.rows,
+    let size = limits::least(session.size, buffers::LINE_SIZE);
+    let walked = blocks::answer_block(
+        &engine.cards,
+        &engine.rules,
         &mut holdings,
         &mut line,
         size,
@@ -96,10 +95,10 @@ pub fn feed(session: Session, block: &[u8], out: &mut [u8]) -> Fed
         session: Session {
             engine: next,
             line,
-            size: kept.size,
+            size: walked.size,
         },
         taken,
-        count: kept.count,
+        count: walked.count,
     }
 }
 
@@ -107,7 +106,7 @@ pub fn feed(session: Session, block: &[u8], out: &mut [u8]) -> Fed
 pub fn finish(session: Session, out: &mut [u8; 32]) -> usize
     ensures { λ r. ⌜ Finishes session (now (out .entry)) (now (out .exit)) r ⌝ }
 {
-    let size = buffers::least(session.size, buffers::LINE_SIZE);
+    let size = limits::least(session.size, buffers::LINE_SIZE);
     if size == 0 {
         return 0;
     }
@@ -115,11 +114,8 @@ pub fn finish(session: Session, out: &mut [u8; 32]) -> usize
     let mut holdings = engine.holdings;
     let line = session.line;
     replies::answer(
-        engine.cards,
-        &engine.digits,
-        &engine.groups,
-        engine.rules,
-        &engine.rows,
+        &engine.cards,
+        &engine.rules,
         &mut holdings,
         &line[..size],
         out,

@@ -1,11 +1,14 @@
 // Settling over the 512 holdings: an exchange that is judged fair is covered or not, and moves all its tokens or none.
 ghost use mathlib.Core.Path.{_≡_};
 ghost use Rattle.settling.specs.Settles.{Settles};
-ghost use Rattle.settling.specs.Finish.{Judged, Finished};
+ghost use Rattle.settling.specs.inner.Finish.{Judged, Finished};
 
 mod moves;
 
-use answers::Answer;
+use answers::Reply;
+use rulebook::layout::CardTable;
+use rulebook::layout::RuleTable;
+use rulebook::layout::card_count;
 
 // A copy, which by its type has 512 numbers; of what is lent a proof cannot tell how many there are.
 fn copied(holdings: &[u32; 512]) -> [u32; 512]
@@ -14,43 +17,45 @@ fn copied(holdings: &[u32; 512]) -> [u32; 512]
     *holdings
 }
 
-// Questions 22 and 23, and the move, of an exchange of n transfers that passes questions 12 to 21. The holdings are written once,
-// when all is moved.
-fn finish(cards: u8, holdings: &mut [u32; 512], exchange: &[u8], n: usize) -> Answer
-    requires { ⌜ Judged cards (now exchange) n ⌝ }
-    ensures { λ r. ⌜ Finished cards (now (holdings .entry)) (now (exchange .entry)) r (now (holdings .exit)) ⌝ }
+// Questions 22 and 23, and the move, of an exchange of n transfers that passes questions 12 to 21: the number of the first that is not
+// met, or 0. The holdings are written once, when all is moved.
+fn finish(declared: u8, holdings: &mut [u32; 512], exchange: &[u8], n: usize) -> u8
+    requires { ⌜ Judged declared (now exchange) n ⌝ }
+    ensures { λ r. ⌜ Finished declared (now (holdings .entry)) (now (exchange .entry)) r (now (holdings .exit)) ⌝ }
 {
     let mut next = copied(holdings);
     if !moves::take(&mut next, exchange, n) {
-        return Answer::Refused(answers::NOT_COVERED, 0);
+        return answers::NOT_COVERED;
     }
     if !moves::give(&mut next, exchange, n) {
-        return Answer::Refused(answers::HOLDING_EXCEEDED, 0);
+        return answers::HOLDING_EXCEEDED;
     }
-    let count = limits::at_most(cards, limits::CARD_LIMIT) as usize;
+    let count = limits::at_most(declared, limits::CARD_LIMIT) as usize;
     if !moves::limited(&next, count) {
-        return Answer::Refused(answers::HOLDING_EXCEEDED, 0);
+        return answers::HOLDING_EXCEEDED;
     }
     *holdings = next;
-    Answer::Done
+    0
 }
 
 // Questions 12 to 23 of an exchange and its proof, over a rulebook's tables, and the move.
-pub fn settle<'a>(
-    cards: u8,
-    digits: &'a [u8; 608],
-    groups: &'a [u8; 256],
-    rules: u8,
-    rows: &'a [u8; 1792],
+pub fn settle(
+    cards: &CardTable,
+    rules: &RuleTable,
     holdings: &mut [u32; 512],
     exchange: &[u8],
     proof: &[u8],
-) -> Answer
-    ensures { λ r. ⌜ Settles cards (now (digits .entry)) (now (groups .entry)) rules (now (rows .entry)) (now (holdings .entry)) (now (exchange .entry)) (now (proof .entry)) r (now (holdings .exit)) ⌝ }
+) -> Reply
+    ensures { λ r. ⌜ Settles (now (cards .entry)) (now (rules .entry)) (now (holdings .entry)) (now (exchange .entry)) (now (proof .entry)) r (now (holdings .exit)) ⌝ }
 {
-    let judged = judge::judge(cards, digits, groups, rules, rows, exchange, proof);
-    match judged {
-        Answer::Refused(number, place) => Answer::Refused(number, place),
-        Answer::Done => finish(cards, holdings, exchange, exchange.len() / moves::TRANSFER),
+    let judged = judge::judge(cards, rules, exchange, proof);
+    let Reply::Done = judged else {
+        return judged;
+    };
+    let n = exchange.len() / moves::TRANSFER_SIZE;
+    let refusal = finish(card_count(cards), holdings, exchange, n);
+    if refusal != 0 {
+        return Reply::Refused(refusal, 0);
     }
+    Reply::Done
 }

@@ -15,19 +15,19 @@ use Rattle.model.proofs.Places.{all-equal, upTo-length, upTo-at, upTo-cong}
 use Rattle.model.proofs.Loops.{count-more, occurs-at}
 use Rattle.model.proofs.Counting.{count-le}
 use Rattle.model.proofs.Tests.{lt-or-ge}
-use Rattle.transfers.specs.View.{transferOf, transfersOf, zeros, transfers, listSize, Listed}
+use Rattle.transfers.specs.View.{transferOf, transfersOf, zeros, transferCount, listSize, Listed}
 use Rattle.transfers.specs.declared.Transfer as declared
 
 -- ---- a transfer by its place
 
 -- within the exchange, and past its end
-pub here : (e : List ℕ) (i : ℕ) → i < transfers e → getD (exchangeOf e) i noTransfer ≡ transferAt e i
+pub here : (e : List ℕ) (i : ℕ) → i < transferCount e → getD (exchangeOf e) i noTransfer ≡ transferAt e i
 unfolding exchangeOf
-here e i l = upTo-at (transferAt e) (transfers e) i noTransfer l
+here e i l = upTo-at (transferAt e) (transferCount e) i noTransfer l
 
-pub past : (e : List ℕ) (i : ℕ) → transfers e ≤ i → getD (exchangeOf e) i noTransfer ≡ noTransfer
+pub past : (e : List ℕ) (i : ℕ) → transferCount e ≤ i → getD (exchangeOf e) i noTransfer ≡ noTransfer
 unfolding exchangeOf
-past e i l = List·getD-eq-default (upTo (transferAt e) (transfers e)) noTransfer {n = i} (omega (arith, upTo-length (transferAt e) (transfers e)))
+past e i l = List·getD-eq-default (upTo (transferAt e) (transferCount e)) noTransfer {n = i} (omega (arith, upTo-length (transferAt e) (transferCount e)))
 
 -- ---- lists
 
@@ -54,21 +54,21 @@ module _ (xs : List declared.Transfer) where
     pub count-all : count t (transfersOf (take (length xs) xs)) ≡ count t (transfersOf xs)
     count-all = ap (λ (r : List declared.Transfer). count t (transfersOf r)) (take-length xs)
 
-  -- the transfer of place j stands among the first n
+  -- the transfer of place j is among the first n
   pub count-some : (n j : ℕ) → j < n → n ≤ length xs → 1 ≤ count (placed j) (transfersOf (take n xs))
   count-some n j l k = rw (prefix≡ n k) (occurs-at placed n j l)
 
   -- a list read from an exchange within the limit
   module _ (e : List ℕ) (short : length e ≤ exchangeLimit) (h : Listed e xs) where
-    pub list-at : (j : ℕ) → j < transfers e → placed j ≡ transferAt e j
+    pub list-at : (j : ℕ) → j < transferCount e → placed j ≡ transferAt e j
     list-at j l = h .each j (omega arith) ∙ here e j l
 
-    list≡ : transfersOf (take (transfers e) xs) ≡ exchangeOf e
+    list≡ : transfersOf (take (transferCount e) xs) ≡ exchangeOf e
     unfolding exchangeOf
-    list≡ = prefix≡ (transfers e) (omega (arith, h .size)) ∙ upTo-cong placed _ (transfers e) list-at
+    list≡ = prefix≡ (transferCount e) (omega (arith, h .size)) ∙ upTo-cong placed _ (transferCount e) list-at
 
     -- transfer j counted in the list
-    pub count≡ : (j : ℕ) → j < transfers e → count (placed j) (transfersOf (take (transfers e) xs)) ≡ count (transferAt e j) (exchangeOf e)
+    pub count≡ : (j : ℕ) → j < transferCount e → count (placed j) (transfersOf (take (transferCount e) xs)) ≡ count (transferAt e j) (exchangeOf e)
     count≡ j l = rw (list-at j l, list≡)
 
 -- ---- the loop that reads, i transfers being read
@@ -99,7 +99,7 @@ module _ (e : List ℕ) where
     rest = λ j m. ap transferOf (getD-set-other xs i j x zeros (λ (q : j ≡ i). omega arith)) ∙ h .rest j (omega arith);
   }
 
-  pub begun-all : (xs : List declared.Transfer) (i : ℕ) → Begun i xs → min (transfers e) listSize ≤ i → Listed e xs
+  pub begun-all : (xs : List declared.Transfer) (i : ℕ) → Begun i xs → min (transferCount e) listSize ≤ i → Listed e xs
   begun-all xs i h l = record {
     size = h .size;
     each = λ j m.

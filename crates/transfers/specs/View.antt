@@ -17,8 +17,8 @@ abbrev pub zeros : declared.Transfer
 zeros = record { giver = 0; kind = 0; receiver = 0 }
 
 -- how many transfers the bytes hold
-abbrev pub transfers : List ℕ → ℕ
-transfers e = length e / transferSize
+abbrev pub transferCount : List ℕ → ℕ
+transferCount e = length e / transferSize
 
 -- as many as an exchange may have
 abbrev pub listSize : ℕ

@@ -5,7 +5,7 @@ ghost use lib.ListN.{take, getD};
 ghost use Rattle.model.specs.Lists.{firstFailing};
 ghost use Rattle.model.specs.Transfers as model;
 ghost use Rattle.model.specs.Transfers.{count, exchangeOf, noTransfer};
-ghost use Rattle.transfers.specs.View.{transferOf, transfersOf, transfers, listSize, Listed};
+ghost use Rattle.transfers.specs.View.{transferOf, transfersOf, transferCount, listSize, Listed};
 ghost use Rattle.model.specs.Fairness.{isProperOf};
 
 const TRANSFER_SIZE: usize = limits::TRANSFER_SIZE as usize;
@@ -51,20 +51,20 @@ pub fn same(t: Transfer, u: Transfer) -> u8
 }
 
 // Question 13 of one transfer.
-fn is_proper(cards: u8, t: Transfer) -> bool
-    ensures { λ r. ⌜ r ≡ isProperOf cards (transferOf t) ⌝ }
+fn is_proper(declared: u8, t: Transfer) -> bool
+    ensures { λ r. ⌜ r ≡ isProperOf declared (transferOf t) ⌝ }
 {
-    (limits::is_within(t.giver, cards) & limits::is_within(t.receiver, cards))
+    (limits::is_within(t.giver, declared) & limits::is_within(t.receiver, declared))
         & ((t.giver != t.receiver) & limits::is_within(t.kind, limits::KIND_COUNT))
 }
 
 // The number, from 1, of the first transfer that question 13 refuses, or 0.
-pub fn first_improper(cards: u8, exchange: &[u8]) -> usize
-    ensures { λ r. ⌜ (r ≡ firstFailing (isProperOf cards) 1 (exchangeOf (now (exchange .entry)))) × (r ≤ transfers (now (exchange .entry))) ⌝ }
+pub fn first_improper(declared: u8, exchange: &[u8]) -> usize
+    ensures { λ r. ⌜ (r ≡ firstFailing (isProperOf declared) 1 (exchangeOf (now (exchange .entry)))) × (r ≤ transferCount (now (exchange .entry))) ⌝ }
 {
     let n = exchange.len() / TRANSFER_SIZE;
     for i in 0..n {
-        if !is_proper(cards, transfer_at(exchange, i)) {
+        if !is_proper(declared, transfer_at(exchange, i)) {
             return i + 1;
         }
     }
@@ -73,13 +73,9 @@ pub fn first_improper(cards: u8, exchange: &[u8]) -> usize
 
 // How many transfers a list takes of the exchange.
 fn listed(exchange: &[u8]) -> usize
-    ensures { λ r. ⌜ r ≡ min (transfers (now (exchange .entry))) listSize ⌝ }
+    ensures { λ r. ⌜ r ≡ min (transferCount (now (exchange .entry))) listSize ⌝ }
 {
-    let n = exchange.len() / TRANSFER_SIZE;
-    if n <= LIST_SIZE {
-        return n;
-    }
-    LIST_SIZE
+    limits::least(exchange.len() / TRANSFER_SIZE, LIST_SIZE)
 }
 
 // The exchange's first 32 transfers, then transfers of zeros.
@@ -106,7 +102,7 @@ fn add_same(sum: usize, t: Transfer, u: Transfer) -> usize
     sum + same(t, u) as usize
 }
 
-// How often the transfer stands in the list.
+// How often the transfer is in the list.
 fn count_equal(list: &[Transfer], t: Transfer) -> usize
     ensures { λ r. ⌜ r ≡ count (transferOf t) (transfersOf (now (list .entry))) ⌝ }
 {
@@ -127,7 +123,7 @@ fn count_first(list: [Transfer; 32], n: usize, t: Transfer) -> usize
     count_equal(&list[..n], t)
 }
 
-// How often the transfer stands among the first n of the list.
+// How often the transfer is among the first n of the list.
 pub fn count_in(list: [Transfer; 32], n: usize, t: Transfer) -> usize
     ensures { λ r. ⌜ r ≡ count (transferOf t) (transfersOf (take n list)) ⌝ }
 {

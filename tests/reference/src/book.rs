@@ -12,7 +12,7 @@ pub const MAX_RULES: usize = 56;
 pub const KINDS: usize = 16;
 /// Number of variables, the letters a to h.
 pub const VARIABLES: usize = 8;
-/// Where `*` stands among the parties of a rule: after the variables.
+/// Where `*` is among the parties of a rule: after the variables.
 pub const OWNER: u8 = VARIABLES as u8;
 
 const MIN_DIGITS: usize = 12;
@@ -101,12 +101,12 @@ pub struct Rule {
     pub head: u8,
     pub prices: Few<Price>,
     pub conditions: Few<Condition>,
-    /// Bit i is set if variable i stands in the head, a price or a condition.
+    /// Bit i is set if variable i is in the head, a price or a condition.
     pub used: u8,
 }
 
 impl Rule {
-    /// Notes that a party stands in the rule; the owner is no variable.
+    /// Notes that a party is in the rule; the owner is no variable.
     fn mention(&mut self, party: u8) {
         if party != OWNER {
             self.used |= 1 << party;

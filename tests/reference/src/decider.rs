@@ -8,7 +8,7 @@ use std::collections::{BTreeMap, BTreeSet};
 /// Transfers counted with repeats, in ascending order.
 type Multiset = Vec<Transfer>;
 
-/// The card of each party that stands in a rule.
+/// The card of each party that is in a rule.
 type Filling = BTreeMap<u8, u8>;
 
 /// The head's transfer and the prices of a rule under a filling that its owner agrees to.
@@ -94,7 +94,7 @@ fn fillings(book: &Book, rule: &Rule) -> Vec<Filling> {
     fillings
 }
 
-/// The parties that stand anywhere in a rule.
+/// The parties that are anywhere in a rule.
 fn parties(rule: &Rule) -> BTreeSet<u8> {
     let mut parties = BTreeSet::from([rule.head]);
     for price in rule.prices.iter() {

@@ -7,7 +7,7 @@ pub const HOLDINGS: usize = MAX_CARDS * KINDS;
 /// Most tokens of a kind that all cards together may hold.
 pub const MAX_SUM: u32 = 1_000_000_000;
 
-/// All holdings; card m, kind k stands at (m - 1) * 16 + k - 1.
+/// All holdings; card m, kind k is at (m - 1) * 16 + k - 1.
 pub type Holdings = [u32; HOLDINGS];
 /// One record of a proof.
 pub type Record = [u8; 12];

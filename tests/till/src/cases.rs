@@ -98,7 +98,7 @@ impl Case {
     }
 }
 
-/// The large text and a piece of it behind it, cut at every length.
+/// The large text and a piece of it after it, cut at every length.
 fn every_text() -> impl Iterator<Item = Case> {
     let whole = large::accepted(4);
     let more = whole.text[..PAST_TEXT].to_vec();
@@ -118,7 +118,7 @@ fn every_exchange() -> impl Iterator<Item = Case> {
     })
 }
 
-/// A proof, with records off the chain behind it, cut at every length.
+/// A proof, with records off the chain after it, cut at every length.
 fn every_proof(random: &mut Random) -> impl Iterator<Item = Case> {
     let whole = large::accepted(32);
     let mut proof = whole.proof.clone();

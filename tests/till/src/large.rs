@@ -4,7 +4,7 @@ use crate::cases::Case;
 use reference::book::{passes_luhn, KINDS, MAX_CARDS, MAX_RULES, MAX_TEXT};
 use reference::engine::HOLDINGS;
 
-/// The cards stand in rings of so many; each gives to the next one for what the one before it gives.
+/// The cards are in rings of so many; each gives to the next one for what the one before it gives.
 const RING: usize = 4;
 /// What every card holds of every kind: enough for millions of calls, and under the sum's limit.
 const HELD: u32 = 30_000_000;

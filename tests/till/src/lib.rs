@@ -21,7 +21,7 @@ extern "C" {
 
 /// The library's call; the twin of `reference::till::call`.
 pub fn call(text: &[u8], holdings: &mut [u32], exchange: &[u8], proof: &[u8]) -> u32 {
-    // SAFETY: each pointer has so many elements behind it, and what is lent mutably overlaps
+    // SAFETY: each pointer is to so many elements, and what is lent mutably overlaps
     // nothing else and is changed by nobody during the call, as these are slices.
     unsafe {
         thawcroft_settle(

@@ -1,5 +1,5 @@
 //! Sets the till's library beside the second engine, call by call: the answer, every number of the
-//! holdings, and what stands around the four buffers.
+//! holdings, and what surrounds the four buffers.
 
 #![forbid(unsafe_code)]
 
@@ -13,7 +13,7 @@ use std::process::ExitCode;
 use std::thread;
 use till_host::cases::Case;
 
-/// What stands around bytes and around numbers.
+/// What surrounds bytes and numbers.
 const BYTE: u8 = 0xa5;
 const NUMBER: u32 = 0xa5a5_a5a5;
 /// Two threads may call at once, so two do.

@@ -1,4 +1,4 @@
--- The wanted byte does not stand from the start to place i.
+-- The wanted byte is at no place from the start to i.
 use mathlib.Core.Path.{_≡_, refl}
 use Prim.Native.Nat.{_+_, _-_, _≤_, max}
 use native.Mathlib.Omega.{arith}

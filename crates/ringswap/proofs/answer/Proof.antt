@@ -1,9 +1,9 @@
 -- Each turn takes a byte at least, or ends.
-use mathlib.Core.Path.{_≡_}
+use mathlib.Core.Path.{_≡_, refl}
 use Prim.Native.Nat.{_-_, _≤_}
 use lib.ListN.{length}
 use borrow.Author.Needs.{needs}
-use Rattle.session.proofs.Sessions.{said-length}
+use Rattle.commands.proofs.Buffers.{printed-count}
 use Rattle.ringswap.proofs.answer.Statement.{statement}
 use Rattle.ringswap.proofs.answer.Tie as tie
 
@@ -14,7 +14,7 @@ abbrev μ-loop : tie.MeasureT-loop
 μ-loop block out₀ next₀ at₀ out next at = length block - at
 
 slice-aggregate-write-all : tie.Need-slice-aggregate-write-all Inv-loop μ-loop
-slice-aggregate-write-all c = said-length _ _ _ _ _ (c .before .before .before .feed .ensures)
+slice-aggregate-write-all c = printed-count (c .before .before .before .feed .ensures .said) refl
 
 pub answer-spec : {M : Type 1} → statement M
 answer-spec =

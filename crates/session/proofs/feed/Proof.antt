@@ -7,32 +7,29 @@ use Rattle.session.proofs.Sessions.{feeds}
 use Rattle.session.proofs.feed.Statement.{statement}
 use Rattle.session.proofs.feed.Tie as tie
 
--- both arrays are whole
-holdings-long : (c : tie.Start) → length (c .args .session .engine .holdings) ≡ 512
-holdings-long c = search needs
-
+-- the line's array is whole
 line-long : (c : tie.Start) → length (c .args .session .line) ≡ 8193
 line-long c = search needs
 
 slice-aggregate-answer-block-2 : tie.Need-slice-aggregate-answer-block-2
 slice-aggregate-answer-block-2 c =
-    let start = c .before .before .before .before .before .before .before .before .before .before .before in
+    let start = c .before .before .before .before .before .before .before .before .before .before in
     omega (arith, start .least .ensures, length-take (start .least .result) (start .before .before .before .args .block .now))
 
 answer-block-requires : tie.Need-answer-block-requires
 answer-block-requires c κs =
-    let sized = c .before .before .before .before .before .before .before .before in
+    let sized = c .before .before .before .before .before .before .before in
     let first = sized .before .before .before .before in
     let start = first .before .before .before in
     let few = length-take (first .least .result) (start .args .block .now) in
-    (holdings-long start, omega (arith, sized .least2 .ensures), line-long start, omega (arith, first .least .ensures, few))
+    (omega (arith, sized .least2 .ensures), line-long start, omega (arith, first .least .ensures, few))
 
 returns : tie.Need-returns
 returns c =
     let walked = c .before .before .before in
-    let sized = walked .before .before .before .before .before .before .before .before .before in
+    let sized = walked .before .before .before .before .before .before .before .before in
     let start = sized .before .before .before .before in
-    feeds _ _ _ _ _ _ _ _ _ _ (line-long (start .before .before .before)) (start .least .ensures) (sized .least2 .ensures) (walked .answer-block .ensures)
+    feeds _ _ _ _ _ _ _ _ _ _ (line-long (start .before .before .before)) (start .least .ensures) (sized .least2 .ensures) (walked .answer-block .ensures .0) (walked .answer-block .ensures .1)
 
 pub feed-spec : {M : Type 1} → statement M
 feed-spec =

@@ -1,4 +1,4 @@
--- The text's answer, by cases: a refusal stands with the holdings as they were, and what is read goes on over its tables.
+-- The text's answer, by cases: a refusal is the answer, with the holdings as they were, and what is read goes on over its tables.
 use borrow.Author.Needs.{needs}
 use Rattle.till.proofs.CallLaws.{text-refused, text-read}
 use Rattle.till.proofs.thawcroft_settle.Statement.{statement}
@@ -30,7 +30,7 @@ same-length c = search needs
 returns-2 : tie.Need-returns-2
 returns-2 c =
     let over = c .before .before .settle-over in
-    let matched = c .before .before .before .before .before .before .before .before .before in
+    let matched = c .before .before .before .before .before .before .before .before in
     let reading = matched .before .before .read in
     text-read _ _ _ _ (reading .result .tables) _ _ (rw (matched .enum-told .given .1) at (reading .ensures .answer)) (over .ensures)
 

@@ -14,10 +14,10 @@ use Rattle.transfers.proofs.first_improper.Statement.{statement}
 use Rattle.transfers.proofs.first_improper.Tie as tie
 
 abbrev Inv-loop : tie.InvT-loop
-Inv-loop cards exchange n i₀ i = (i ≤ n) × (every (isProperOf cards) (upTo (transferAt exchange) i) ≡ true)
+Inv-loop declared exchange n i₀ i = (i ≤ n) × (every (isProperOf declared) (upTo (transferAt exchange) i) ≡ true)
 
 abbrev μ-loop : tie.MeasureT-loop
-μ-loop cards exchange n i₀ i = n - i
+μ-loop declared exchange n i₀ i = n - i
 
 abbrev start : tie.At-loop Inv-loop μ-loop → tie.Start Inv-loop μ-loop
 start o = o .before .before
@@ -25,9 +25,9 @@ start o = o .before .before
 -- the transfer tested is transfer i
 tested : (c : tie.After-is-proper Inv-loop μ-loop)
     → let o = c .before .before .before in let a = start o .args in
-    isProperOf (a .cards) (transferAt (a .exchange .now) (o .loop .i)) ≡ c .is-proper .result
+    isProperOf (a .declared) (transferAt (a .exchange .now) (o .loop .i)) ≡ c .is-proper .result
 tested c =
-    sym (c .is-proper .ensures ∙ ap (isProperOf (start (c .before .before .before) .args .cards)) (c .before .transfer-at .ensures ∙ here _ _ (c .before .before .loop-test .taken)))
+    sym (c .is-proper .ensures ∙ ap (isProperOf (start (c .before .before .before) .args .declared)) (c .before .transfer-at .ensures ∙ here _ _ (c .before .before .loop-test .taken)))
 
 loop-holds : tie.Need-loop-holds Inv-loop μ-loop
 loop-holds c = search needs

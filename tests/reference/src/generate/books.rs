@@ -6,10 +6,10 @@ use crate::random::Random;
 /// Few issuers, so that cards often share one, and some that differ in an outer digit only.
 const ISSUERS: [&str; 4] = ["700012", "700056", "700057", "000057"];
 
-/// Bytes that stand next to a form's own, or belong to another part of it.
+/// Bytes next to a form's own, or of another part of it.
 const NEAR_MISSES: &[u8] = b"\0\t\n\r  *-<=?@ACGPQRaghi0123489`\x7f\x80\xff";
 
-/// Lines that no form has, whatever stands above them.
+/// Lines that no form has, whatever is above them.
 const FORMLESS: [&str; 62] = [
     "",
     " ",
@@ -208,7 +208,7 @@ fn damage(text: &mut Vec<u8>, random: &mut Random) {
         4 => {
             text.pop();
         }
-        // Before an LF stands the end of a line, after it the beginning of the next.
+        // Before an LF is the end of a line, after it the beginning of the next.
         5 if line_start > 0 => text.insert(line_start - 1, random.pick(b" \r")),
         6 => text.insert(line_start, b' '),
         7 => {

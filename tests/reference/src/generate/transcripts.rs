@@ -8,7 +8,7 @@ use crate::commands::ringswap;
 use crate::engine::{Engine, MAX_SUM};
 use crate::random::Random;
 
-/// What stands where the program looks for its book.
+/// What is where the program looks for its book.
 pub enum BookFile {
     Text(Vec<u8>),
     Missing,

@@ -3,7 +3,7 @@ use mathlib.Core.Path.{_≡_, sym, _∙_, ap}
 use lib.ListN.{getD}
 use borrow.Author.Needs.{needs}
 use Rattle.model.specs.Calls.{issue, redeem}
-use Rattle.commands.specs.Parts.{tripleOf}
+use Rattle.commands.specs.inner.Parts.{tripleOf}
 use Rattle.commands.proofs.Readings.{no-space, too-short, form-I, form-D, form-H, form-S, no-form}
 use Rattle.commands.proofs.lines.read.Statement.{statement}
 use Rattle.commands.proofs.lines.read.Tie as tie

@@ -1,37 +1,42 @@
 -- The sum of what the digits before i count, with those from i on, is the whole sum.
 use mathlib.Core.Path.{_≡_}
-use mathlib.Core.List.{map}
-use Prim.Native.Nat.{_+_, _*_, _-_, _≤_}
-use lib.ListN.{length, drop}
+use Prim.Native.Nat.{_+_, _*_, _-_, _≤_, _<_}
+use native.Mathlib.Omega.{arith}
+use lib.ListN.{length, take, drop}
+use lib.Seq.{getD-take, length-take-le}
+use Rattle.model.specs.Limits.{mostDigits}
 use Rattle.model.specs.CardNumbers.{luhnSum, luhn}
-use Rattle.model.specs.Reader.{digitOf}
-use Rattle.forms.proofs.Digits.{AtByte, sum-more, luhn-is}
+use Rattle.forms.specs.Numbers.{digitsIn}
+use Rattle.forms.proofs.Digits.{sum-more, luhn-is}
 use borrow.Author.Needs.{needs}
 use Rattle.forms.proofs.cards.checks.Statement.{statement}
 use Rattle.forms.proofs.cards.checks.Tie as tie
 
 abbrev Inv-loop : tie.InvT-loop
-Inv-loop s sum₀ i₀ i-end sum i = (i ≤ length s) × (sum + luhnSum (map digitOf (drop i s)) ≡ luhnSum (map digitOf s)) × (sum ≤ 20 * i) × (i-end ≡ length s)
+Inv-loop n digits sum₀ i₀ sum i = (i ≤ n) × (sum + luhnSum (drop i (take n digits)) ≡ luhnSum (take n digits)) × (sum ≤ 510 * i)
 
 abbrev μ-loop : tie.MeasureT-loop
-μ-loop s sum₀ i₀ i-end sum i = length s - i
+μ-loop n digits sum₀ i₀ sum i = n - i
 
-abbrev head : tie.After-digit Inv-loop μ-loop → tie.At-loop Inv-loop μ-loop
-head c = c .before .before .before
-
-turn : (c : tie.After-digit Inv-loop μ-loop) → AtByte (head c .before .before .args .s .now) (head c .loop .i) (c .digit .result)
-turn c = record { within = search needs; digit = c .digit .ensures .0 }
+-- as many digits as are counted
+long : (c : tie.At-loop Inv-loop μ-loop) → length (digitsIn (c .before .before .args .number)) ≡ c .before .before .args .number .count
+long c = let n = c .before .before .args .number in let l : length (n .digits) ≡ mostDigits = search needs in length-take-le (n .count) (n .digits) (omega (arith, c .before .before .pre))
 
 loop-again : tie.Need-loop-again Inv-loop μ-loop
 loop-again c =
-    let h = head (c .before) .loop in
-    (search needs, rw (c .weigh .ensures .0) (sum-more (turn (c .before)) (h .sum) (h .inv .1)), search needs, search needs)
+    let head = c .before .before in
+    let h = head .loop in
+    let n = head .before .before .args .number in
+    let l : h .i < n .count = c .before .loop-test .taken in
+    let more = sum-more (digitsIn n) (h .i) (h .sum) (h .inv .1) (omega (arith, long head)) in
+    (search needs, rw (c .weigh .ensures .0) (rw (long head, getD-take (n .count) (n .digits) (h .i) 0 l) at more), omega (arith, c .weigh .ensures .1, h .inv .2))
 
 returns : tie.Need-returns Inv-loop μ-loop
 unfolding luhn
 returns c =
-    let h = c .before .loop in
-    rw (luhn-is (c .before .before .before .args .s .now) (h .i) (h .sum) (search needs) (h .inv .1))
+    let head = c .before in
+    let h = head .loop in
+    rw (luhn-is (digitsIn (head .before .before .args .number)) (h .i) (h .sum) (h .inv .1) (omega (arith, long head)))
 
 pub checks-spec : {M : Type 1} → statement M
 checks-spec =
@@ -43,7 +48,6 @@ checks-spec =
     (λ c. search needs)
     (λ c. search needs)
     (λ c. search needs)
-    (λ c κs. search needs)
     (λ c κs. search needs)
     (λ c. search needs)
     (λ c. search needs)

@@ -6,7 +6,7 @@ use lib.Dec.{leb}
 use lib.ListN.{length, take, drop}
 use Rattle.model.specs.Lists.{every}
 use Rattle.model.specs.Reader.{digitOf, isCardLine}
-use Rattle.forms.proofs.Digits.{to-end}
+use Rattle.model.proofs.Places.{to-end}
 use borrow.Author.Needs.{needs}
 use Rattle.forms.proofs.cards.is_card_line.Statement.{statement}
 use Rattle.forms.proofs.cards.is_card_line.Tie as tie

@@ -10,7 +10,10 @@ returns c = condition-short _ _ (c .if1 .taken)
 
 returns-2 : tie.Need-returns-2
 unfolding hasCondition
-returns-2 c = cc
+returns-2 c =
+    let name = c .before .before .before in
+    let group = name .before .before in
+    rw (c .byte3 .ensures, c .before .name2 .ensures, c .before .before .byte2 .ensures, name .name .ensures, name .before .marked2 .ensures, group .group .ensures, group .before .marked .ensures, group .before .before .byte .ensures)
 
 pub has-condition-spec : {M : Type 1} → statement M
 has-condition-spec =

@@ -6,7 +6,10 @@ use Rattle.forms.proofs.rules.has_head.Tie as tie
 
 returns : tie.Need-returns
 unfolding hasHead
-returns c = cc
+returns c =
+    let variable = c .before .before .before in
+    let kind = variable .before .before in
+    rw (c .byte5 .ensures, c .before .byte4 .ensures, c .before .before .byte3 .ensures, variable .variable .ensures, variable .before .byte2 .ensures, kind .kind .ensures, kind .before .byte .ensures, kind .before .before .number-width .ensures .0)
 
 pub has-head-spec : {M : Type 1} → statement M
 has-head-spec =

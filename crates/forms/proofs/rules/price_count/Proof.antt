@@ -1,4 +1,4 @@
--- The loop counts the prices that stand before place i.
+-- The loop counts the prices that are before place i.
 use mathlib.Core.Path.{_≡_, refl, sym}
 use Prim.Native.Nat.{_+_, _*_, _-_, _≤_}
 use native.Mathlib.Omega.{arith}

@@ -1,45 +1,41 @@
 -- What is left to read, over the book of the tables so far, is the whole text's opening.
-use mathlib.Core.Path.{_≡_, sym, subst⁻¹}
+use mathlib.Core.Path.{_≡_, sym}
 use Prim.Native.Nat.{_+_, _-_, _<_, _≤_}
 use lib.ListN.{length}
 use Rattle.model.specs.Opening.{opening}
 use Rattle.rulebook.specs.View.{bookOf}
-use Rattle.rulebook.specs.Lines.{tables, Sized}
-use Rattle.rulebook.specs.declared.Tables.{Tables}
+use Rattle.rulebook.specs.inner.Lines.{Sized}
 use Rattle.rulebook.proofs.Texts.{openFrom, starts, empty-sized, all-read, Turn, no-LF, line-refused, line-read}
 use borrow.Author.Needs.{needs}
 use Rattle.rulebook.proofs.text.take_lines.Statement.{statement}
 use Rattle.rulebook.proofs.text.take_lines.Tie as tie
 
 abbrev Inv-loop : tie.InvT-loop
-Inv-loop text cards₀ digits₀ lengths₀ groups₀ rules₀ rows₀ at₀ line₀ cards digits lengths groups rules rows at line =
-    (at ≤ length text) × (line ≤ at + 1) × Sized (tables cards digits lengths groups rules rows)
-    × (openFrom text at line (bookOf (tables cards digits lengths groups rules rows)) ≡ opening text)
+Inv-loop text cards₀ rules₀ at₀ line₀ cards rules at line =
+    (at ≤ length text) × (line ≤ at + 1) × Sized cards rules
+    × (openFrom text at line (bookOf cards rules) ≡ opening text)
 
 abbrev μ-loop : tie.MeasureT-loop
-μ-loop text cards₀ digits₀ lengths₀ groups₀ rules₀ rows₀ at₀ line₀ cards digits lengths groups rules rows at line = length text - at
+μ-loop text cards₀ rules₀ at₀ line₀ cards rules at line = length text - at
 
 loop-holds : tie.Need-loop-holds Inv-loop μ-loop
 loop-holds c =
     let pre = c .before .pre in
     let text = c .before .args .text .now in
-    (search needs, search needs, subst⁻¹ Sized (pre .1) empty-sized, subst⁻¹ (λ (t : Tables). openFrom text 0 1 (bookOf t) ≡ opening text) (pre .1) (starts text (pre .0)))
+    (search needs, search needs, empty-sized (pre .1), starts text (pre .0) (pre .1))
 
--- ---- a turn: the tables at its start, and the place where its line ends
-
-abbrev tables-at : tie.At-loop Inv-loop μ-loop → Tables
-tables-at c = tables (c .loop .cards) (c .loop .digits) (c .loop .lengths) (c .loop .groups) (c .loop .rules) (c .loop .rows)
+-- ---- a turn, and the place where its line ends
 
 abbrev head : tie.After-find Inv-loop μ-loop → tie.At-loop Inv-loop μ-loop
 head c = c .before .before
 
 turn : (c : tie.After-find Inv-loop μ-loop)
-    → Turn (head c .before .before .args .text .now) (head c .loop .at) (head c .loop .line) (c .find .result) (tables-at (head c))
+    → Turn (head c .before .before .args .text .now) (head c .loop .at) (head c .loop .line) (c .find .result) (head c .loop .cards) (head c .loop .rules)
 turn c = record { so-far = head c .loop .inv .3; within = c .before .loop-test .taken; ends = c .find .ensures .0 }
 
 -- the line has its LF
 abbrev ended : tie.After-take-line Inv-loop μ-loop → tie.Else1 Inv-loop μ-loop
-ended c = c .before .before .before .before .before .before .before .before
+ended c = c .before .before .before .before
 
 has-LF : (c : tie.Else1 Inv-loop μ-loop) → c .before .find .result < length (head (c .before) .before .before .args .text .now)
 has-LF c = search needs
@@ -71,8 +67,6 @@ take-lines-spec =
     loop-holds
     (λ c κs. search needs)
     returns
-    (λ c. search needs)
-    (λ c. search needs)
     (λ c. search needs)
     (λ c. search needs)
     (λ c. search needs)

@@ -1,8 +1,7 @@
 -- Both words' bytes fit into their buffers, so that the settlement is that of the line.
-use mathlib.Core.Path.{sym}
-use borrow.Author.Needs.{needs}
 use Rattle.commands.proofs.Buffers.{filled-count}
-use Rattle.session.proofs.Answering.{performed-words}
+use Rattle.session.proofs.Answering.{settled-words}
+use borrow.Author.Needs.{needs}
 use Rattle.session.proofs.replies.settle.Statement.{statement}
 use Rattle.session.proofs.replies.settle.Tie as tie
 
@@ -14,12 +13,11 @@ slice-aggregate-settle-2 c = filled-count (c .before .before .before .before .un
 
 returns : tie.Need-returns
 returns c =
-    let settled = c .before .settle in
-    let second = c .before .before .before .before .before .before in
+    let second = c .before .before .before .before .before in
     let first = second .before .before .before .before in
     let start = first .before .before .before .before .before .before in
-    performed-words _ _ _ _ _ _ (start .args .line .now) (start .args .words .exchange) (start .args .words .proof) _ _ _ _ _ _ _ _ _ (start .pre .0) (search needs) (search needs)
-    (first .unhex .ensures) (second .unhex2 .ensures) (sym (c .told .ensures)) (settled .ensures)
+    settled-words _ _ _ (start .args .line .now) (start .args .words) _ _ _ _ _ _ _ _ (start .pre .0) (search needs) (search needs)
+    (first .unhex .ensures) (second .unhex2 .ensures) (c .settle .ensures)
 
 pub settle-spec : {M : Type 1} → statement M
 settle-spec =
@@ -39,6 +37,5 @@ settle-spec =
     slice-aggregate-settle
     (λ c. search needs)
     slice-aggregate-settle-2
-    (λ c κs. search needs)
     (λ c κs. search needs)
     returns)

@@ -1,0 +1,6 @@
+-- Private contracts: nothing below has to be believed, since no contract of an exported function names it.
+pub mod Parts
+pub mod Rows
+pub mod Records
+pub mod Counts
+pub mod Notes

@@ -1,0 +1,21 @@
+// Runs the calls of document 01's cases that are not marked P, and of some that are, and prints what each answers; the file stdout beside
+// src/ is what it must print.
+mod issuing;
+mod large;
+mod ring;
+mod tell;
+
+fn main() {
+    issuing::questions();
+    issuing::sums();
+    ring::settles();
+    ring::sizes();
+    ring::transfers();
+    ring::records();
+    ring::cards();
+    ring::links();
+    ring::swaps();
+    ring::asked_twice();
+    ring::other_order();
+    large::settlements();
+}

@@ -1,0 +1,162 @@
+// Reads a text at every limit and with each kind of ill-formed line, and prints what each answers; the file stdout beside src/ is what it
+// must print.
+mod texts;
+
+use answers::Answer;
+use rulebook::layout;
+
+fn print(before: &[u8], number: u64) {
+    io::write_all(1, before);
+    io::print_decimal(1, number);
+}
+
+// Prints the label, the refusal's number and line or 0 0, and how many cards and rules there are.
+fn show(label: &[u8], text: &[u8]) {
+    let reading = rulebook::read(text);
+    let answer = reading.answer;
+    let tables = reading.tables;
+    io::write_all(1, label);
+    match answer {
+        Answer::Done => {
+            io::write_all(1, b": 0 0");
+        }
+        Answer::Refused(number, line) => {
+            print(b": ", number as u64);
+            print(b" ", line as u64);
+        }
+    }
+    print(b", cards ", layout::card_count(&tables.cards) as u64);
+    print(b", rules ", layout::rule_count(&tables.rules) as u64);
+    io::write_all(1, b"\n");
+}
+
+// The texts of a table: a row is a label, `:`, a text and `;`.
+fn show_all(table: &[u8]) {
+    let mut at = 0;
+    while at < table.len() {
+        let colon = ascii::find(table, at, b':');
+        let text = colon + 1;
+        let end = ascii::find(table, text, b';');
+        if table.len() <= end {
+            return;
+        }
+        show(&table[at..colon], &table[text..end]);
+        at = end + 1;
+    }
+}
+
+fn forms() {
+    show_all(
+        b"empty text:;\
+          one card:C 700012000019\n;\
+          group and rule:C 700012000019\nG 1 1\nR 1 A a\n;\
+          group twice:C 700012000019\nG 1 1\nG 1 1\n;\
+          empty line:C 700012000019\n\n;\
+          only LF:\n;\
+          another letter:X 1\n;\
+          lower-case letter:c 700012000019\n;\
+          letter alone:C\n;\
+          letter and space:C \n;\
+          missing last LF:C 700012000019;\
+          missing LF after a rule:C 700012000019\nR 1 A a;\
+          space in front: C 700012000019\n;\
+          space at the end:C 700012000019 \n;\
+          two spaces:C  700012000019\n;\
+          letter in the digits:C 70001200001x\n;\
+          wrong check digit before a formless line:C 700012000018\nX\n;\
+          wrong check digit before a missing LF:C 700012000018\nC 1;",
+    );
+}
+
+fn numbers() {
+    show_all(
+        b"m of 0:C 700012000019\nG 1 0\n;\
+          m of 00:C 700012000019\nG 1 00\n;\
+          m of 01:C 700012000019\nG 1 01\n;\
+          m of 2:C 700012000019\nG 1 2\n;\
+          m of 33:C 700012000019\nG 1 33\n;\
+          m of 99:C 700012000019\nR 99 A a\n;\
+          m of 100:C 700012000019\nR 100 A a\n;\
+          m missing:C 700012000019\nG 1\n;\
+          group 0:C 700012000019\nG 0 1\n;\
+          group 8:C 700012000019\nG 8 1\n;\
+          group 9:C 700012000019\nG 9 1\n;\
+          group of two digits:C 700012000019\nG 11 1\n;\
+          group line above its card:G 1 1\nC 700012000019\n;\
+          rule line above its card:R 1 A a\nC 700012000019\n;",
+    );
+}
+
+fn rules() {
+    show_all(
+        b"kind P:C 700012000019\nR 1 P h\n;\
+          kind Q:C 700012000019\nR 1 Q a\n;\
+          variable i:C 700012000019\nR 1 A i\n;\
+          head a star:C 700012000019\nR 1 A *\n;\
+          four prices:C 700012000019\nR 1 A a < b A * < b A * < b A * < b A *\n;\
+          five prices:C 700012000019\nR 1 A a < b A * < b A * < b A * < b A * < b A *\n;\
+          four conditions:C 700012000019\nR 1 A a ? 1 a = a * = * * ? 8 *\n;\
+          five conditions:C 700012000019\nR 1 A a ? 1 a = a * = * * ? 8 * = a a\n;\
+          price after a condition:C 700012000019\nR 1 A a ? 1 a < b A *\n;\
+          price with letters alike:C 700012000019\nR 1 A a < b A b\n;\
+          price from a star:C 700012000019\nR 1 A a < * A b\n;\
+          condition with group 9:C 700012000019\nR 1 A a ? 9 a\n;\
+          condition with group 0:C 700012000019\nR 1 A a ? 0 a\n;\
+          condition cut short:C 700012000019\nR 1 A a = a\n;",
+    );
+}
+
+fn bytes() {
+    show_all(
+        b"NUL:C 700012000019\nG 1 1\0\n;\
+          CR:C 700012000019\r\n;\
+          tab:C\t700012000019\n;\
+          byte 255:C 70001200001\xff\n;\
+          byte 128:\x80\n;",
+    );
+}
+
+fn cards() {
+    show_all(
+        b"11 digits:C 70001200008\n;\
+          12 digits:C 700012000001\n;\
+          19 digits:C 7000120000000000008\n;\
+          20 digits:C 70001200000000000001\n;\
+          card twice:C 700012000019\nC 700012000019\n;\
+          beginning of a longer card:C 7000120000000000008\nC 700012000001\n;",
+    );
+}
+
+// The text of so many cards, a line so many times, and what is last.
+fn show_limit(label: &[u8], cards: u8, line: &[u8], times: usize, last: &[u8]) {
+    let mut buffer = [0u8; 20_000];
+    let declared = texts::cards(&mut buffer, cards);
+    let repeated = texts::repeat(&mut buffer, declared, line, times);
+    let end = texts::put(&mut buffer, repeated, last);
+    show(label, &buffer[..end]);
+}
+
+fn limits() {
+    show_limit(b"32 cards", 32, b"", 0, b"");
+    show_limit(b"33 cards", 32, b"C 1\n", 1, b"");
+    show_limit(b"56 rules", 1, b"R 1 A a\n", 56, b"");
+    show_limit(b"57 rules", 1, b"R 1 A a\n", 57, b"");
+    show_limit(b"57th rule of no card", 1, b"R 1 A a\n", 56, b"R 2 A a\n");
+    show_limit(b"16,384 bytes", 2, b"G 1 1\n", 2723, b"R 1 A a\nR 1 A a\n");
+    show_limit(
+        b"16,385 bytes",
+        2,
+        b"G 1 1\n",
+        2723,
+        b"R 1 A a\nR 1 A a\n\n",
+    );
+}
+
+fn main() {
+    forms();
+    numbers();
+    rules();
+    bytes();
+    cards();
+    limits();
+}
