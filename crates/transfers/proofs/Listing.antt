@@ -6,7 +6,7 @@ use mathlib.Core.Logic.{⊎-elim}
 use Prim.Native.Nat.{ℕ, zero, suc, _+_, _≤_, _<_, min}
 use native.Mathlib.Omega.{arith}
 use native.Mathlib.Nat.{eq-or-lt-of-le}
-use lib.ListN.{length, getD, set, take, replicate, length-set, length-replicate, List·getD-eq-default}
+use lib.ListN.{length, getD, set, take, replicate, length-set, length-map, length-replicate, List·getD-eq-default}
 use lib.Seq.{take-length, take-suc, getD-set-same, getD-set-other}
 use Rattle.model.specs.Limits.{exchangeLimit}
 use Rattle.model.specs.Lists.{upTo}
@@ -15,7 +15,7 @@ use Rattle.model.proofs.Places.{all-equal, upTo-length, upTo-at, upTo-cong}
 use Rattle.model.proofs.Loops.{count-more, occurs-at}
 use Rattle.model.proofs.Counting.{count-le}
 use Rattle.model.proofs.Tests.{lt-or-ge}
-use Rattle.transfers.specs.View.{transferOf, transfersOf, zeros, transferCount, listSize, Listed}
+use Rattle.transfers.specs.View.{transferOf, transfersOf, transferCount, listSize, Listed}
 use Rattle.transfers.specs.declared.Transfer as declared
 
 -- ---- a transfer by its place
@@ -30,6 +30,14 @@ unfolding exchangeOf
 past e i l = List·getD-eq-default (upTo (transferAt e) (transferCount e)) noTransfer {n = i} (omega (arith, upTo-length (transferAt e) (transferCount e)))
 
 -- ---- lists
+
+abbrev pub zeros : declared.Transfer
+zeros = record { giver = 0; kind = 0; receiver = 0 }
+
+map-at : (xs : List declared.Transfer) (j : ℕ) → getD (transfersOf xs) j noTransfer ≡ transferOf (getD xs j zeros)
+map-at [] j = refl
+map-at (x ∷ xs) zero = refl
+map-at (x ∷ xs) (suc j) = map-at xs j
 
 map-last : (xs : List declared.Transfer) (x : declared.Transfer) → transfersOf (xs ++ (x ∷ [])) ≡ transfersOf xs ++ (transferOf x ∷ [])
 map-last [] x = refl
@@ -60,12 +68,20 @@ module _ (xs : List declared.Transfer) where
 
   -- a list read from an exchange within the limit
   module _ (e : List ℕ) (short : length e ≤ exchangeLimit) (h : Listed e xs) where
+    abbrev taken : ℕ → Transfer
+    taken j = getD (exchangeOf e) j noTransfer
+
+    pub list-size : length xs ≡ listSize
+    list-size = sym (length-map xs transferOf) ∙ ap length h ∙ upTo-length taken listSize
+
     pub list-at : (j : ℕ) → j < transferCount e → placed j ≡ transferAt e j
-    list-at j l = h .each j (omega arith) ∙ here e j l
+    list-at j l =
+        let within : j < listSize = omega arith in
+        sym (map-at xs j) ∙ ap (λ (l : List Transfer). getD l j noTransfer) h ∙ upTo-at taken listSize j noTransfer within ∙ here e j l
 
     list≡ : transfersOf (take (transferCount e) xs) ≡ exchangeOf e
     unfolding exchangeOf
-    list≡ = prefix≡ (transferCount e) (omega (arith, h .size)) ∙ upTo-cong placed _ (transferCount e) list-at
+    list≡ = prefix≡ (transferCount e) (omega (arith, list-size)) ∙ upTo-cong placed _ (transferCount e) list-at
 
     -- transfer j counted in the list
     pub count≡ : (j : ℕ) → j < transferCount e → count (placed j) (transfersOf (take (transferCount e) xs)) ≡ count (transferAt e j) (exchangeOf e)
@@ -100,11 +116,12 @@ module _ (e : List ℕ) where
   }
 
   pub begun-all : (xs : List declared.Transfer) (i : ℕ) → Begun i xs → min (transferCount e) listSize ≤ i → Listed e xs
-  begun-all xs i h l = record {
-    size = h .size;
-    each = λ j m.
-        ⊎-elim
-        (λ (d : j < i). h .each j d)
-        (λ (d : i ≤ j). h .rest j d ∙ sym (past e j (omega arith)))
-        (lt-or-ge j i);
-  }
+  begun-all xs i h l =
+      sym (ap transfersOf (take-length xs)) ∙ prefix≡ xs (length xs) (omega arith) ∙ ap (upTo (placed xs)) (h .size) ∙ upTo-cong (placed xs) _ listSize each
+    where
+      each : (j : ℕ) → j < listSize → placed xs j ≡ getD (exchangeOf e) j noTransfer
+      each j m =
+          ⊎-elim
+          (λ (d : j < i). h .each j d)
+          (λ (d : i ≤ j). h .rest j d ∙ sym (past e j (omega arith)))
+          (lt-or-ge j i)

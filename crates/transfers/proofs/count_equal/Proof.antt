@@ -53,9 +53,9 @@ use denote.Exit.{yes}
 use borrow.Author.Tests.{lt-ltb, le-ltb}
 use Rattle.model.specs.Transfers.{same, count}
 use Rattle.transfers.specs.View.{transferOf}
-use Rattle.transfers.specs.View.{zeros, transfersOf}
+use Rattle.transfers.specs.View.{transfersOf}
 use Rattle.transfers.specs.declared.Transfer.{Transfer}
-use Rattle.transfers.proofs.Listing.{count-next, count-all, count-small}
+use Rattle.transfers.proofs.Listing.{zeros, count-next, count-all, count-small}
 use Rattle.transfers.proofs.TransferRow.{R, struct, mach, vals, tells, makes, lawful, copy}
 use Rattle.transfers.proofs.add_same as add
 use Rattle.transfers.proofs.add_same.Symbol as add-def

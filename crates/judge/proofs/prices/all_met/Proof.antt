@@ -9,7 +9,7 @@ use borrow.Author.Tests.{not-true, not-false}
 use Rattle.model.specs.Lists.{every}
 use Rattle.model.specs.Transfers.{count, transferAt, exchangeOf}
 use Rattle.model.proofs.Loops.{every-more, every-stop, every-end}
-use Rattle.transfers.proofs.Listing.{count≡, count-some}
+use Rattle.transfers.proofs.Listing.{list-size, count≡, count-some}
 use Rattle.judge.specs.inner.Rows.{below}
 use borrow.Author.Needs.{needs}
 use Rattle.judge.proofs.prices.all_met.Statement.{statement}
@@ -37,7 +37,7 @@ met c =
 is-met-requires : tie.Need-is-met-requires Inv-loop μ-loop
 is-met-requires c κs =
     let o = c .before .before .before in
-    let size = o .before .read-list .ensures .size in
+    let size = list-size (o .before .read-list .result) _ (start o .pre) (o .before .read-list .ensures) in
     (search needs, count-some _ _ (o .loop .j) (c .before .before .loop-test .taken) (omega arith))
 
 returns : tie.Need-returns Inv-loop μ-loop
