@@ -11,11 +11,14 @@ use Rattle.model.specs.Calls.{Call, issue, redeem, query, settle}
 use Rattle.model.specs.Grammar.{decimal}
 use Rattle.model.specs.Limits.{numberMost}
 use Rattle.commands.specs.Grammar.{hexadecimal, printCommand, printReply, printBad, printBook, wellFormedCall}
-use Rattle.commands.specs.Reader.{pairBytes, readCommand}
+use Rattle.commands.specs.Reader.{pairBytes}
+use Rattle.commands.specs.Dialects.{admits, commandIn}
+use Rattle.commands.specs.declared.Dialect.{Dialect}
 
--- a line is read exactly if it is a printed well-formed command, and it is read back
+-- in every dialect, a line is a command exactly if the dialect admits it and it is the command printed, and well formed
 abbrev pub CommandsRead : Type 0
-CommandsRead = (w : List ℕ) (c : Call) → (readCommand w ≡ some c) ↔ ((printCommand c ≡ w) × T (wellFormedCall c))
+CommandsRead = (d : Dialect) (line : List ℕ) (c : Call)
+    → (commandIn d line ≡ some c) ↔ (T (admits d line) × (printCommand c ≡ line) × T (wellFormedCall c))
 
 -- the bytes of a printed word are read back
 abbrev pub BytesRead : Type 0

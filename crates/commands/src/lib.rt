@@ -1,16 +1,26 @@
-// ringswap's command lines read, and its answers printed, as functions on slices.
+// The programs' command lines read, and their answers printed, as functions on slices.
 //
 // A line is any bytes of any length, without its LF; the caller cuts lines.
+mod dialects;
 mod hexadecimal;
 mod lines;
 mod numbers;
 mod replies;
 
+pub use dialects::read_in;
+pub use dialects::ringswap;
+pub use dialects::thawcroft;
 pub use hexadecimal::unhex;
 pub use lines::read;
 pub use replies::put_bad;
 pub use replies::put_book;
 pub use replies::put_reply;
+
+// How many bytes a line may have without its LF, and whether every command is answered, or document 01's alone.
+pub struct Dialect {
+    pub longest: u32,
+    pub every: bool,
+}
 
 // A word's place in a line: where its first byte is, and the place after its last.
 pub struct Place {

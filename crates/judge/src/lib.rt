@@ -20,9 +20,9 @@ ghost use Rattle.judge.specs.Judges.{Judges};
 // The numbers of document 01 in bytes.
 const TRANSFER_SIZE: usize = limits::TRANSFER_SIZE as usize;
 
-const EXCHANGE_LIMIT: usize = 96;
+const EXCHANGE_LIMIT: usize = limits::EXCHANGE_LIMIT as usize;
 
-const PROOF_LIMIT: usize = 3060;
+const PROOF_LIMIT: usize = limits::PROOF_LIMIT as usize;
 
 // The first question that the exchange and its proof do not meet, with its place, or done.
 pub fn judge(cards: &CardTable, rules: &RuleTable, exchange: &[u8], proof: &[u8]) -> Reply

@@ -24,8 +24,12 @@ pub const MOST_DIGITS: u8 = 19;
 
 pub const SUM_LIMIT: u32 = 1_000_000_000;
 
-// The bytes of a transfer in an exchange.
+// The bytes of a transfer in an exchange, and the most that an exchange and a proof may have.
 pub const TRANSFER_SIZE: u8 = 3;
+
+pub const EXCHANGE_LIMIT: u8 = 96;
+
+pub const PROOF_LIMIT: u16 = 3060;
 
 // Whether n is one of 1 to m.
 pub fn is_within(n: u8, m: u8) -> bool

@@ -1,25 +1,27 @@
--- A block walked from LF to LF: what is printed so far is what its first bytes say, and what is kept is what they leave.
+-- A block walked from LF to LF: the line that was begun before it, the lines in it, and the part that has no LF.
 use mathlib.Core.Path.{_≡_, refl, sym, _∙_, ap}
 use mathlib.Core.Bool.{Bool, true, false, cond}
 use mathlib.Core.List.{List, [], _∷_, _++_, append-nil}
 use Prim.Native.Char.{code}
 use Prim.Native.Nat.{ℕ, suc, _+_, _-_, _*_, _≤_, _<_, max}
 use native.Mathlib.Omega.{arith}
-use native.Mathlib.Nat.{zero-add}
 use lib.Dec.{T, eqb}
 use lib.ListN.{length, take, drop, length-take, length-drop, length-append, take-append-drop}
-use lib.Seq.{take-suc, take-all, take-add, sets}
-use Rattle.model.specs.Limits.{lineLimit}
+use lib.Seq.{take-suc, take-all, take-add, drop-drop, sets}
 use Rattle.model.specs.Lists.{until, ascii}
-use Rattle.model.proofs.Places.{until-there}
+use Rattle.model.specs.Book.{Book}
+use Rattle.model.proofs.Places.{until-there, to-end}
 use Rattle.model.specs.Reader.{hasNoLF}
 use Rattle.accounts.specs.View.{stateFrom}
 use Rattle.rulebook.specs.View.{bookOf}
+use Rattle.commands.specs.Grammar.{answerSize}
+use Rattle.commands.specs.Dialects.{commandIn}
+use Rattle.commands.specs.declared.Dialect.{Dialect}
 use Rattle.commands.proofs.Buffers.{sets-append}
-use Rattle.session.specs.Input.{commandIn, answerTo, afterLine}
-use Rattle.session.specs.Blocks.{Progress, blockSays, afterBlock}
-use Rattle.session.specs.inner.Parts.{withPart, PartKept, LineSaid, LineLeft, progressFrom, BlockSaid, BlockLeft}
-use Rattle.session.proofs.Lines.{says-both, after-both, part-says, part-after, line-says, line-after}
+use Rattle.session.specs.Input.{answerTo, afterLine}
+use Rattle.session.specs.Blocks.{Progress, betweenLines, lineRoom, blockSays, afterBlock}
+use Rattle.session.specs.inner.Parts.{PartKept, LineSaid, LinesSaid, progressFrom, BlockSaid, BlockLeft}
+use Rattle.session.proofs.Lines.{says-both, after-both, part-says, part-after, line-says, line-after, whole-says, whole-after}
 
 -- ---- up to the first LF
 
@@ -52,112 +54,179 @@ module _ (block : List ℕ) (at end : ℕ) (ends : end ≡ at + until (code "\n"
   rest-plain : length block ≤ end → T (hasNoLF (drop at block))
   rest-plain l = rw (take-all (end - at) (drop at block) (omega (arith, length-drop at block))) at part-plain
 
--- ---- the walk
+-- ---- the lines that end in a block
 
-module _ (cards rules h₀ line₀ : List ℕ) (size₀ : ℕ) (block out₀ : List ℕ) where
+module _ (d : Dialect) (cards rules h₀ block out₀ : List ℕ) (from : ℕ) where
   -- what the first bytes of the block print and leave
   abbrev saidTo : ℕ → List ℕ
-  saidTo at = blockSays (bookOf cards rules) (progressFrom h₀ line₀ size₀) (take at block)
+  saidTo at = blockSays d (bookOf cards rules) (betweenLines (stateFrom h₀)) (take at block)
 
   abbrev leftTo : ℕ → Progress
-  leftTo at = afterBlock (bookOf cards rules) (progressFrom h₀ line₀ size₀) (take at block)
+  leftTo at = afterBlock d (bookOf cards rules) (betweenLines (stateFrom h₀)) (take at block)
 
-  pub record Walking (h line out : List ℕ) (size at count end : ℕ) : Type 0 where
-    pub put : out ≡ sets out₀ 0 (saidTo at)
-    pub counted : count ≡ length (saidTo at)
-    pub few : count ≤ at * 32
-    pub progress : leftTo at ≡ progressFrom h line size
+  pub record Walking (h out : List ℕ) (at count end : ℕ) : Type 0 where
+    pub put : out ≡ sets out₀ from (saidTo at)
+    pub counted : count ≡ from + length (saidTo at)
+    pub few : count ≤ from + at * answerSize
+    pub left : leftTo at ≡ betweenLines (stateFrom h)
     pub ends : end ≡ at + until (code "\n") (drop at block)
     pub last : end ≤ length block
     pub near : at ≤ length block
-    pub long : length line ≡ suc lineLimit
-    pub room : size ≤ suc lineLimit
     pub same : length out ≡ length out₀
 
-  pub walking-none : (end : ℕ) → length line₀ ≡ suc lineLimit → size₀ ≤ suc lineLimit → end ≡ 0 + until (code "\n") (drop 0 block) → end ≤ max 0 (length block)
-      → Walking h₀ line₀ out₀ size₀ 0 0 end
+  pub walking-none : (end : ℕ) → end ≡ 0 + until (code "\n") (drop 0 block) → end ≤ max 0 (length block) → Walking h₀ out₀ 0 from end
   unfolding blockSays afterBlock
-  walking-none end m r e k = record {
+  walking-none end e k = record {
     put = refl;
-    counted = refl;
+    counted = omega arith;
     few = omega arith;
-    progress = refl;
+    left = refl;
     ends = e;
     last = omega arith;
     near = omega arith;
-    long = m;
-    room = r;
     same = refl;
   }
 
-  module _ (h line out : List ℕ) (size at count end : ℕ) (w : Walking h line out size at count end) where
-    short : length (take size line) ≤ suc lineLimit
-    short = omega (arith, length-take size line, w .room)
-
+  module _ (h out : List ℕ) (at count end : ℕ) (w : Walking h out at count end) where
     abbrev part : List ℕ
     part = take (end - at) (drop at block)
 
-    -- what the line prints, and leaves
-    abbrev lineSays : List ℕ
-    lineSays = answerTo (bookOf cards rules) (stateFrom h) (commandIn (withPart line size part))
+    abbrev partSays : List ℕ
+    partSays = answerTo (bookOf cards rules) (stateFrom h) (commandIn d part)
 
-    said-more : end < length block → saidTo (end + 1) ≡ saidTo at ++ lineSays
+    said-more : end < length block → saidTo (end + 1) ≡ saidTo at ++ partSays
     said-more l =
         let b = bookOf cards rules in
         rw (
           line-there block at end (w .ends) l,
-          says-both b (progressFrom h₀ line₀ size₀) (take at block) (part ++ ascii "\n"),
-          w .progress,
-          line-says b (stateFrom h) (take size line) part short (part-plain block at end (w .ends)),
+          says-both d b (betweenLines (stateFrom h₀)) (take at block) (part ++ ascii "\n"),
+          w .left,
+          whole-says d b (stateFrom h) part (part-plain block at end (w .ends)),
         )
 
-    left-more : end < length block → leftTo (end + 1) ≡ record { state = afterLine (bookOf cards rules) (stateFrom h) (commandIn (withPart line size part)); line = [] }
+    left-more : end < length block → leftTo (end + 1) ≡ betweenLines (afterLine (bookOf cards rules) (stateFrom h) (commandIn d part))
     left-more l =
         let b = bookOf cards rules in
-        rw (
-          line-there block at end (w .ends) l,
-          after-both b (progressFrom h₀ line₀ size₀) (take at block) (part ++ ascii "\n"),
-          w .progress,
-        ) (line-after b (stateFrom h) (take size line) part short (part-plain block at end (w .ends)))
+        rw (line-there block at end (w .ends) l, after-both d b (betweenLines (stateFrom h₀)) (take at block) (part ++ ascii "\n"), w .left)
+        (whole-after d b (stateFrom h) part (part-plain block at end (w .ends)))
 
     -- a line and its LF more
-    pub walking-more : (h′ line′ out′ : List ℕ) (r end′ : ℕ) → end < length block → length out′ ≡ length out
-        → LineSaid cards rules h line size part out count out′ r → LineLeft cards rules h line size part h′ line′
-        → end′ ≡ end + 1 + until (code "\n") (drop (end + 1) block) → end′ ≤ max (end + 1) (length block)
-        → Walking h′ line′ out′ 0 (end + 1) r end′
-    walking-more h′ line′ out′ r end′ l z d f e k = record {
-      put = rw (said-more l, sets-append out₀ 0 (saidTo at) lineSays, ← w .put, ← w .counted, zero-add count) (d .put);
-      counted = rw (said-more l, length-append (saidTo at) lineSays, ← w .counted) (d .next);
-      few = omega (arith, w .few, d .few, w .ends);
-      progress = rw (left-more l, f .state);
+    pub walking-more : (h′ out′ : List ℕ) (r end′ : ℕ) → end < length block → length out′ ≡ length out → LineSaid d cards rules h part out count h′ out′ r
+        → end′ ≡ end + 1 + until (code "\n") (drop (end + 1) block) → end′ ≤ max (end + 1) (length block) → Walking h′ out′ (end + 1) r end′
+    walking-more h′ out′ r end′ l z s e k = record {
+      put = rw (said-more l, sets-append out₀ from (saidTo at) partSays, ← w .put, ← w .counted) (s .put);
+      counted = omega (arith, s .next, w .counted, ap length (said-more l), length-append (saidTo at) partSays);
+      few = omega (arith, w .few, s .few, w .ends);
+      left = rw (left-more l, s .state);
       ends = e;
       last = omega arith;
       near = omega arith;
-      long = f .long;
-      room = omega arith;
       same = z ∙ w .same;
     }
 
-    -- no LF is left: nothing more is printed, and the rest is kept
-    module _ (l : length block ≤ end) where
-      pub block-said : BlockSaid cards rules h₀ line₀ size₀ block out₀ out count
-      block-said = record { put = rw same-said (w .put); counted = rw same-said (w .counted); few = omega (arith, w .few, w .near) }
-        where
-          same-said : blockSays (bookOf cards rules) (progressFrom h₀ line₀ size₀) block ≡ saidTo at
-          same-said =
-              let b = bookOf cards rules in
-              ap (blockSays b (progressFrom h₀ line₀ size₀)) (sym (take-append-drop at block))
-              ∙ says-both b (progressFrom h₀ line₀ size₀) (take at block) (drop at block)
-              ∙ rw (w .progress, part-says b (stateFrom h) (take size line) (drop at block) short (rest-plain block at end (w .ends) l)) (append-nil (saidTo at))
+    -- no LF is left
+    pub lines-said : length block ≤ end → LinesSaid d cards rules h₀ block out₀ from h out at count
+    lines-said l = record {
+      put = w .put;
+      next = w .counted;
+      few = w .few;
+      left = w .left;
+      near = w .near;
+      plain = rest-plain block at end (w .ends) l;
+    }
 
-      pub block-left : (line′ : List ℕ) (r : ℕ) → PartKept line size (take (length block - at) (drop at block)) line′ r
-          → BlockLeft cards rules h₀ line₀ size₀ block h line′ r
-      block-left line′ r k = record {
-        progress =
-            let b = bookOf cards rules in
-            ap (afterBlock b (progressFrom h₀ line₀ size₀)) (sym (take-append-drop at block))
-            ∙ after-both b (progressFrom h₀ line₀ size₀) (take at block) (drop at block)
-            ∙ rw (w .progress, k .bytes, take-all (length block - at) (drop at block) (omega (arith, length-drop at block))) (part-after b (stateFrom h) (take size line) (drop at block) short (rest-plain block at end (w .ends) l));
-        room = k .room;
-        long = k .long;
-      }
+-- ---- a block after what is kept of a line
+
+module _ (d : Dialect) (cards rules h line : List ℕ) (size : ℕ) (block out : List ℕ) (end : ℕ) (ends : end ≡ 0 + until (code "\n") (drop 0 block))
+    (few : size ≤ lineRoom d) where
+  abbrev b : Book
+  b = bookOf cards rules
+
+  short : length (take size line) ≤ lineRoom d
+  short = omega (arith, length-take size line)
+
+  from-start : end - 0 ≡ end
+  from-start = omega arith
+
+  first-plain : T (hasNoLF (take end block))
+  first-plain = rw from-start at (part-plain block 0 end ends)
+
+  -- it has no LF: nothing is printed, and it is kept
+  module _ (l : length block ≤ end) where
+    all : take end block ≡ block
+    all = take-all end block l
+
+    plain : T (hasNoLF block)
+    plain = rw all at first-plain
+
+    pub unended-said : BlockSaid d cards rules h line size block out out 0
+    unended-said = let e = part-says d b (stateFrom h) (take size line) block short plain in record { put = rw e; counted = rw e; few = omega arith }
+
+    pub unended-left : (line′ : List ℕ) (kept : ℕ) → PartKept (lineRoom d) line size (take end block) line′ kept
+        → BlockLeft d cards rules h line size block h line′ kept
+    unended-left line′ kept k = record {
+      progress = part-after d b (stateFrom h) (take size line) block short plain ∙ rw (k .bytes, all);
+      within = k .within;
+    }
+
+  -- its first LF ends the line, then come the lines of the rest, and what is left
+  module _ (l : end < length block) (line₁ : List ℕ) (kept : ℕ) (k : PartKept (lineRoom d) line size (take end block) line₁ kept)
+      (h₁ out₁ : List ℕ) (n₁ : ℕ) (a : LineSaid d cards rules h (take kept line₁) out 0 h₁ out₁ n₁)
+      (h₂ out₂ : List ℕ) (rest n₂ : ℕ) (s : LinesSaid d cards rules h₁ (drop (end + 1) block) out₁ n₁ h₂ out₂ rest n₂) where
+    abbrev tail : List ℕ
+    tail = drop (end + 1) block
+
+    abbrev firstSays : List ℕ
+    firstSays = answerTo b (stateFrom h) (commandIn d (take kept line₁))
+
+    abbrev tailSays : List ℕ
+    tailSays = blockSays d b (betweenLines (stateFrom h₁)) (take rest tail)
+
+    whole : block ≡ (take end block ++ ascii "\n") ++ tail
+    whole = sym (take-append-drop (end + 1) block) ∙ ap (λ (f : List ℕ). f ++ tail) (rw from-start at (line-there block 0 end ends l))
+
+    first-says : blockSays d b (progressFrom h line size) (take end block ++ ascii "\n") ≡ firstSays
+    first-says = rw (k .bytes) (line-says d b (stateFrom h) (take size line) (take end block) short first-plain)
+
+    first-after : afterBlock d b (progressFrom h line size) (take end block ++ ascii "\n") ≡ betweenLines (stateFrom h₁)
+    first-after = line-after d b (stateFrom h) (take size line) (take end block) short first-plain ∙ rw (← k .bytes, a .state)
+
+    block-says : blockSays d b (progressFrom h line size) block ≡ firstSays ++ tailSays
+    block-says =
+        ap (blockSays d b (progressFrom h line size)) whole
+        ∙ says-both d b (progressFrom h line size) (take end block ++ ascii "\n") tail
+        ∙ rw (first-says, first-after, tail-says)
+      where
+        tail-says : blockSays d b (betweenLines (stateFrom h₁)) tail ≡ tailSays
+        tail-says =
+            ap (blockSays d b (betweenLines (stateFrom h₁))) (sym (take-append-drop rest tail))
+            ∙ says-both d b (betweenLines (stateFrom h₁)) (take rest tail) (drop rest tail)
+            ∙ rw (s .left, part-says d b (stateFrom h₂) [] (drop rest tail) (omega arith) (s .plain)) (append-nil tailSays)
+
+    block-after : afterBlock d b (progressFrom h line size) block ≡ record { state = stateFrom h₂; line = take (lineRoom d) (drop rest tail) }
+    block-after =
+        ap (afterBlock d b (progressFrom h line size)) whole
+        ∙ after-both d b (progressFrom h line size) (take end block ++ ascii "\n") tail
+        ∙ rw first-after tail-after
+      where
+        tail-after : afterBlock d b (betweenLines (stateFrom h₁)) tail ≡ record { state = stateFrom h₂; line = take (lineRoom d) (drop rest tail) }
+        tail-after =
+            ap (afterBlock d b (betweenLines (stateFrom h₁))) (sym (take-append-drop rest tail))
+            ∙ after-both d b (betweenLines (stateFrom h₁)) (take rest tail) (drop rest tail)
+            ∙ rw (s .left) (part-after d b (stateFrom h₂) [] (drop rest tail) (omega arith) (s .plain))
+
+    pub ended-said : BlockSaid d cards rules h line size block out out₂ n₂
+    ended-said = record {
+      put = rw (block-says, sets-append out 0 firstSays tailSays, ← a .put, ← a .next) (s .put);
+      counted = omega (arith, ap length block-says, length-append firstSays tailSays, a .next, s .next);
+      few = omega (arith, a .few, s .few, s .near, length-drop (end + 1) block);
+    }
+
+    pub ended-left : (line₂ : List ℕ) (left : ℕ) → PartKept (lineRoom d) line₁ 0 (take (length block - (end + 1 + rest)) (drop (end + 1 + rest) block)) line₂ left
+        → BlockLeft d cards rules h line size block h₂ line₂ left
+    ended-left line₂ left m =
+        let place : drop rest tail ≡ drop (end + 1 + rest) block = drop-drop rest (end + 1) block in
+        record {
+          progress = block-after ∙ rw (m .bytes, to-end block (end + 1 + rest), place);
+          within = m .within;
+        }

@@ -1,12 +1,20 @@
 // The lines of a block: each is answered at its LF, and what is left after the last is kept.
 use crate::buffers;
+use crate::line_room;
 use crate::replies;
+use commands::Dialect;
 use rulebook::layout::CardTable;
 use rulebook::layout::RuleTable;
-ghost use mathlib.Core.Path.{_≡_};
 ghost use Prim.Native.Nat.{_+_, _*_, _≤_};
 ghost use lib.ListN.{length};
-ghost use Rattle.session.specs.inner.Parts.{LineSaid, LineLeft, BlockSaid, BlockLeft};
+ghost use Rattle.session.specs.Blocks.{lineRoom};
+ghost use Rattle.session.specs.inner.Parts.{LineSaid, LinesSaid, BlockSaid, BlockLeft};
+
+// Where the part of a block begins that has no LF, and the place after the answers to its lines.
+struct Lines {
+    rest: usize,
+    count: usize,
+}
 
 // How much of the last line is kept, and how many bytes were printed.
 pub(crate) struct Walked {
@@ -14,29 +22,51 @@ pub(crate) struct Walked {
     pub count: usize,
 }
 
-// A line at its LF: what was kept of it and its last part, answered from a place on. The place after the answer.
-fn end_line<'a>(
+// A line answered from a place on: the place after the answer. The tables are lent at one lifetime, since a session lends both at once.
+fn answer_line<'a>(
+    dialect: Dialect,
     cards: &'a CardTable,
     rules: &'a RuleTable,
     holdings: &mut [u32; 512],
-    line: &mut [u8],
-    size: usize,
-    part: &[u8],
+    line: &[u8],
     out: &mut [u8],
     at: usize,
 ) -> usize
-    requires { ⌜ (size ≤ 8193) × (length (now line) ≡ 8193) × (at + 32 ≤ length (now out)) ⌝ }
-    ensures { λ r. ⌜ LineSaid (now (cards .entry)) (now (rules .entry)) (now (holdings .entry)) (now (line .entry)) size (now (part .entry)) (now (out .entry)) at (now (out .exit)) r ⌝ }
-    ensures { λ r. ⌜ LineLeft (now (cards .entry)) (now (rules .entry)) (now (holdings .entry)) (now (line .entry)) size (now (part .entry)) (now (holdings .exit)) (now (line .exit)) ⌝ }
+    requires { ⌜ at + 32 ≤ length (now out) ⌝ }
+    ensures { λ r. ⌜ LineSaid dialect (now (cards .entry)) (now (rules .entry)) (now (holdings .entry)) (now (line .entry)) (now (out .entry)) at (now (holdings .exit)) (now (out .exit)) r ⌝ }
 {
-    let kept = buffers::keep(line, size, part);
     let mut reply = [0; 32];
-    let n = replies::answer(cards, rules, holdings, &line[..kept], &mut reply);
+    let n = replies::answer(dialect, cards, rules, holdings, line, &mut reply);
     buffers::put(&reply, n, out, at)
 }
 
-// Each byte of the block prints 32 bytes at most. The tables are lent at one lifetime, since a session lends both at once.
+// The lines that end in a block which begins with a line. They are read where they are: only what has no LF has to be kept.
+fn answer_lines<'a>(
+    dialect: Dialect,
+    cards: &'a CardTable,
+    rules: &'a RuleTable,
+    holdings: &mut [u32; 512],
+    block: &[u8],
+    out: &mut [u8],
+    from: usize,
+) -> Lines
+    requires { ⌜ from + length (now block) * 32 ≤ length (now out) ⌝ }
+    ensures { λ r. ⌜ LinesSaid dialect (now (cards .entry)) (now (rules .entry)) (now (holdings .entry)) (now (block .entry)) (now (out .entry)) from (now (holdings .exit)) (now (out .exit)) (r .rest) (r .count) ⌝ }
+{
+    let mut at = 0;
+    let mut count = from;
+    let mut end = ascii::find(block, 0, b'\n');
+    while end < block.len() {
+        count = answer_line(dialect, cards, rules, holdings, &block[at..end], out, count);
+        at = end + 1;
+        end = ascii::find(block, at, b'\n');
+    }
+    Lines { rest: at, count }
+}
+
+// Each byte of the block prints 32 bytes at most.
 pub(crate) fn answer_block<'a>(
+    dialect: Dialect,
     cards: &'a CardTable,
     rules: &'a RuleTable,
     holdings: &mut [u32; 512],
@@ -45,29 +75,26 @@ pub(crate) fn answer_block<'a>(
     block: &[u8],
     out: &mut [u8],
 ) -> Walked
-    requires { ⌜ (size ≤ 8193) × (length (now line) ≡ 8193) × (length (now block) * 32 ≤ length (now out)) ⌝ }
-    ensures { λ r. ⌜ BlockSaid (now (cards .entry)) (now (rules .entry)) (now (holdings .entry)) (now (line .entry)) size (now (block .entry)) (now (out .entry)) (now (out .exit)) (r .count) ⌝ }
-    ensures { λ r. ⌜ BlockLeft (now (cards .entry)) (now (rules .entry)) (now (holdings .entry)) (now (line .entry)) size (now (block .entry)) (now (holdings .exit)) (now (line .exit)) (r .size) ⌝ }
+    requires { ⌜ (size ≤ lineRoom dialect) × (lineRoom dialect ≤ length (now line)) × (length (now block) * 32 ≤ length (now out)) ⌝ }
+    ensures { λ r. ⌜ BlockSaid dialect (now (cards .entry)) (now (rules .entry)) (now (holdings .entry)) (now (line .entry)) size (now (block .entry)) (now (out .entry)) (now (out .exit)) (r .count) ⌝ }
+    ensures { λ r. ⌜ BlockLeft dialect (now (cards .entry)) (now (rules .entry)) (now (holdings .entry)) (now (line .entry)) size (now (block .entry)) (now (holdings .exit)) (now (line .exit)) (r .size) ⌝ }
 {
-    let mut held = size;
-    let mut at = 0;
-    let mut count = 0;
-    let mut end = ascii::find(block, 0, b'\n');
-    while end < block.len() {
-        count = end_line(
-            cards,
-            rules,
-            holdings,
-            line,
-            held,
-            &block[at..end],
-            out,
-            count,
-        );
-        held = 0;
-        at = end + 1;
-        end = ascii::find(block, at, b'\n');
+    let room = line_room(dialect);
+    let end = ascii::find(block, 0, b'\n');
+    let kept = buffers::keep(line, room, size, &block[..end]);
+    if block.len() <= end {
+        return Walked {
+            size: kept,
+            count: 0,
+        };
     }
-    let kept = buffers::keep(line, held, &block[at..]);
-    Walked { size: kept, count }
+    let next = end + 1;
+    let first = answer_line(dialect, cards, rules, holdings, &line[..kept], out, 0);
+    let lines = answer_lines(dialect, cards, rules, holdings, &block[next..], out, first);
+    let rest = next + lines.rest;
+    let left = buffers::keep(line, room, 0, &block[rest..]);
+    Walked {
+        size: left,
+        count: lines.count,
+    }
 }

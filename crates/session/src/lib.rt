@@ -1,25 +1,29 @@
-// A conversation with an engine: a rule text, then blocks of input in, answers out.
+// A conversation with an engine in a dialect: a rule text, then blocks of input in, answers out.
 //
 // `begin` answers for the text, `feed` for as much of a block as there is room to answer, `finish` for a last line without LF. However an
-// input is cut into blocks, what is printed is the same (specs/Theorems.antt); reading and writing are the caller's.
+// input is cut into blocks, what is printed is the same (specs/Theorems.antt); reading and writing are the caller's. So is the buffer for a
+// line that has no LF yet: one byte more than the dialect's longest, lent to each call as the call before left it.
 mod blocks;
 mod buffers;
 mod replies;
 
 use answers::Answer;
 use answers::Reply;
+use commands::Dialect;
 use engine::Engine;
 use rulebook::layout::card_count;
 use rulebook::layout::rule_count;
+ghost use mathlib.Core.Path.{_≡_};
+ghost use Rattle.session.specs.Blocks.{lineRoom};
 ghost use Rattle.session.specs.Contracts.{Begins, Feeds, Finishes};
 
 // No answer is longer.
 const ANSWER_SIZE: usize = 32;
 
-// The engine, and what is kept of the line that has no LF yet.
+// The engine, and how much is kept of the line that has no LF yet.
 pub struct Session {
+    pub dialect: Dialect,
     pub engine: Engine,
-    pub line: [u8; 8193],
     pub size: usize,
 }
 
@@ -37,16 +41,23 @@ pub struct Fed {
     pub count: usize,
 }
 
+// One byte over the longest line is enough to know that a line is too long.
+pub(crate) fn line_room(dialect: Dialect) -> usize
+    ensures { λ r. ⌜ r ≡ lineRoom dialect ⌝ }
+{
+    dialect.longest as usize + 1
+}
+
 // A rule text of any bytes: `book` cards rules, or the refusal and its line.
-pub fn begin(text: &[u8], out: &mut [u8; 32]) -> Begun
-    ensures { λ r. ⌜ Begins (now (text .entry)) (now (out .entry)) (now (out .exit)) r ⌝ }
+pub fn begin(dialect: Dialect, text: &[u8], out: &mut [u8; 32]) -> Begun
+    ensures { λ r. ⌜ Begins dialect (now (text .entry)) (now (out .entry)) (now (out .exit)) r ⌝ }
 {
     let opened = engine::open(text);
     let answer = opened.answer;
     let engine = opened.engine;
     let session = Session {
+        dialect,
         engine,
-        line: [0; 8193],
         size: 0,
     };
     match answer {
@@ -71,20 +82,29 @@ pub fn begin(text: &[u8], out: &mut [u8; 32]) -> Begun
     }
 }
 
-// As much of a block as there is room to answer, 32 bytes for each of its bytes.
-pub fn feed(session: Session, block: &[u8], out: &mut [u8]) -> Fed
-    ensures { λ r. ⌜ Feeds session (now (block .entry)) (now (out .entry)) (now (out .exit)) r ⌝ }
+// As much of a block as there is room to answer, 32 bytes for each of its bytes; nothing where the longest line has no room.
+pub fn feed(session: Session, line: &mut [u8], block: &[u8], out: &mut [u8]) -> Fed
+    ensures { λ r. ⌜ Feeds session (now (line .entry)) (now (block .entry)) (now (out .entry)) (now (line .exit)) (now (out .exit)) r ⌝ }
 {
+    let dialect = session.dialect;
+    let room = line_room(dialect);
+    if line.len() < room {
+        return Fed {
+            session,
+            taken: 0,
+            count: 0,
+        };
+    }
     let taken = limits::least(block.len(), out.len() / ANSWER_SIZE);
     let engine = session.engine;
     let mut holdings = engine.holdings;
-    let mut line = session.line;
-    let size = limits::least(session.size, buffers::LINE_SIZE);
+    let size = limits::least(session.size, room);
     let walked = blocks::answer_block(
+        dialect,
         &engine.cards,
         &engine.rules,
         &mut holdings,
-        &mut line,
+        line,
         size,
         &block[..taken],
         out,
@@ -93,8 +113,8 @@ pub fn feed(session: Session, block: &[u8], out: &mut [u8]) -> Fed
     next.holdings = holdings;
     Fed {
         session: Session {
+            dialect,
             engine: next,
-            line,
             size: walked.size,
         },
         taken,
@@ -103,17 +123,19 @@ pub fn feed(session: Session, block: &[u8], out: &mut [u8]) -> Fed
 }
 
 // The answer to a last line that lacks its LF, if there is one.
-pub fn finish(session: Session, out: &mut [u8; 32]) -> usize
-    ensures { λ r. ⌜ Finishes session (now (out .entry)) (now (out .exit)) r ⌝ }
+pub fn finish(session: Session, line: &[u8], out: &mut [u8; 32]) -> usize
+    ensures { λ r. ⌜ Finishes session (now (line .entry)) (now (out .entry)) (now (out .exit)) r ⌝ }
 {
-    let size = limits::least(session.size, buffers::LINE_SIZE);
+    let dialect = session.dialect;
+    let kept = limits::least(session.size, line_room(dialect));
+    let size = limits::least(kept, line.len());
     if size == 0 {
         return 0;
     }
     let engine = session.engine;
     let mut holdings = engine.holdings;
-    let line = session.line;
     replies::answer(
+        dialect,
         &engine.cards,
         &engine.rules,
         &mut holdings,

@@ -1,44 +1,51 @@
 -- What is kept of a line, and what a line and a block print and leave.
 use mathlib.Core.Path.{_≡_}
 use mathlib.Core.List.{List, _++_}
-use Prim.Native.Nat.{ℕ, suc, _+_, _*_, _≤_}
-use lib.ListN.{length, take}
+use Prim.Native.Nat.{ℕ, _+_, _*_, _≤_}
+use lib.Dec.{T}
+use lib.ListN.{length, take, drop}
 use lib.Seq.{sets}
-use Rattle.model.specs.Limits.{lineLimit}
+use Rattle.model.specs.Reader.{hasNoLF}
 use Rattle.accounts.specs.View.{stateFrom}
 use Rattle.rulebook.specs.View.{bookOf}
 use Rattle.commands.specs.Grammar.{answerSize}
 use Rattle.commands.specs.View.{Printed}
-use Rattle.session.specs.Input.{commandIn, answerTo, afterLine}
-use Rattle.session.specs.Blocks.{Progress, blockSays, afterBlock}
+use Rattle.commands.specs.Dialects.{commandIn}
+use Rattle.commands.specs.declared.Dialect.{Dialect}
+use Rattle.session.specs.Input.{answerTo, afterLine}
+use Rattle.session.specs.Blocks.{Progress, betweenLines, lineRoom, blockSays, afterBlock}
 
 -- ---- a line of which the first bytes of a buffer are kept
 
--- with a part more, as far as it counts
-abbrev pub withPart : List ℕ → ℕ → List ℕ → List ℕ
-withPart line size part = take (suc lineLimit) (take size line ++ part)
-
--- so many bytes of line′ are that
-pub record PartKept (line : List ℕ) (size : ℕ) (part line′ : List ℕ) (size′ : ℕ) : Type 0 where
-  pub bytes : take size′ line′ ≡ withPart line size part
-  pub room : size′ ≤ suc lineLimit
-  pub long : length line′ ≡ suc lineLimit
+-- so many bytes of line′ are these and the part, as far as there is room
+pub record PartKept (room : ℕ) (line : List ℕ) (size : ℕ) (part line′ : List ℕ) (size′ : ℕ) : Type 0 where
+  pub bytes : take size′ line′ ≡ take room (take size line ++ part)
+  pub within : size′ ≤ room
+  pub long : length line′ ≡ length line
 
 -- ---- a line over the tables and the holdings h
 
-pub record LineAnswered (cards rules h line reply : List ℕ) (n : ℕ) (h′ reply′ : List ℕ) : Type 0 where
-  pub said : Printed answerSize (answerTo (bookOf cards rules) (stateFrom h) (commandIn line)) reply reply′ n
-  pub state : stateFrom h′ ≡ afterLine (bookOf cards rules) (stateFrom h) (commandIn line)
+pub record LineAnswered (d : Dialect) (cards rules h line reply : List ℕ) (n : ℕ) (h′ reply′ : List ℕ) : Type 0 where
+  pub said : Printed answerSize (answerTo (bookOf cards rules) (stateFrom h) (commandIn d line)) reply reply′ n
+  pub state : stateFrom h′ ≡ afterLine (bookOf cards rules) (stateFrom h) (commandIn d line)
 
--- it ends with a part: its answer is put from a place on, and r is the place after it
-pub record LineSaid (cards rules h line : List ℕ) (size : ℕ) (part out : List ℕ) (at : ℕ) (out′ : List ℕ) (r : ℕ) : Type 0 where
-  pub put : out′ ≡ sets out at (answerTo (bookOf cards rules) (stateFrom h) (commandIn (withPart line size part)))
-  pub next : r ≡ at + length (answerTo (bookOf cards rules) (stateFrom h) (commandIn (withPart line size part)))
+-- its answer is put from a place on, and r is the place after it
+pub record LineSaid (d : Dialect) (cards rules h line out : List ℕ) (at : ℕ) (h′ out′ : List ℕ) (r : ℕ) : Type 0 where
+  pub put : out′ ≡ sets out at (answerTo (bookOf cards rules) (stateFrom h) (commandIn d line))
+  pub next : r ≡ at + length (answerTo (bookOf cards rules) (stateFrom h) (commandIn d line))
   pub few : r ≤ at + answerSize
+  pub state : stateFrom h′ ≡ afterLine (bookOf cards rules) (stateFrom h) (commandIn d line)
 
-pub record LineLeft (cards rules h line : List ℕ) (size : ℕ) (part h′ line′ : List ℕ) : Type 0 where
-  pub state : stateFrom h′ ≡ afterLine (bookOf cards rules) (stateFrom h) (commandIn (withPart line size part))
-  pub long : length line′ ≡ suc lineLimit
+-- ---- the whole lines of a block
+
+-- they go up to the place rest, and their answers from the place at on up to r
+pub record LinesSaid (d : Dialect) (cards rules h block out : List ℕ) (at : ℕ) (h′ out′ : List ℕ) (rest r : ℕ) : Type 0 where
+  pub put : out′ ≡ sets out at (blockSays d (bookOf cards rules) (betweenLines (stateFrom h)) (take rest block))
+  pub next : r ≡ at + length (blockSays d (bookOf cards rules) (betweenLines (stateFrom h)) (take rest block))
+  pub few : r ≤ at + rest * answerSize
+  pub left : afterBlock d (bookOf cards rules) (betweenLines (stateFrom h)) (take rest block) ≡ betweenLines (stateFrom h′)
+  pub near : rest ≤ length block
+  pub plain : T (hasNoLF (drop rest block))
 
 -- ---- a block over the tables, the holdings h and what is kept of a line
 
@@ -47,12 +54,11 @@ abbrev pub progressFrom : List ℕ → List ℕ → ℕ → Progress
 progressFrom h line size = record { state = stateFrom h; line = take size line }
 
 -- the block's answers are put from the start on
-pub record BlockSaid (cards rules h line : List ℕ) (size : ℕ) (block out out′ : List ℕ) (count : ℕ) : Type 0 where
-  pub put : out′ ≡ sets out 0 (blockSays (bookOf cards rules) (progressFrom h line size) block)
-  pub counted : count ≡ length (blockSays (bookOf cards rules) (progressFrom h line size) block)
+pub record BlockSaid (d : Dialect) (cards rules h line : List ℕ) (size : ℕ) (block out out′ : List ℕ) (count : ℕ) : Type 0 where
+  pub put : out′ ≡ sets out 0 (blockSays d (bookOf cards rules) (progressFrom h line size) block)
+  pub counted : count ≡ length (blockSays d (bookOf cards rules) (progressFrom h line size) block)
   pub few : count ≤ length block * answerSize
 
-pub record BlockLeft (cards rules h line : List ℕ) (size : ℕ) (block h′ line′ : List ℕ) (size′ : ℕ) : Type 0 where
-  pub progress : afterBlock (bookOf cards rules) (progressFrom h line size) block ≡ progressFrom h′ line′ size′
-  pub room : size′ ≤ suc lineLimit
-  pub long : length line′ ≡ suc lineLimit
+pub record BlockLeft (d : Dialect) (cards rules h line : List ℕ) (size : ℕ) (block h′ line′ : List ℕ) (size′ : ℕ) : Type 0 where
+  pub progress : afterBlock d (bookOf cards rules) (progressFrom h line size) block ≡ progressFrom h′ line′ size′
+  pub within : size′ ≤ lineRoom d

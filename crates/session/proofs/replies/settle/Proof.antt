@@ -1,4 +1,4 @@
--- Both words' bytes fit into their buffers, so that the settlement is that of the line.
+-- Both words' bytes are in their buffers as far as they count.
 use Rattle.commands.proofs.Buffers.{filled-count}
 use Rattle.session.proofs.Answering.{settled-words}
 use borrow.Author.Needs.{needs}
@@ -16,7 +16,7 @@ returns c =
     let second = c .before .before .before .before .before in
     let first = second .before .before .before .before in
     let start = first .before .before .before .before .before .before in
-    settled-words _ _ _ (start .args .line .now) (start .args .words) _ _ _ _ _ _ _ _ (start .pre .0) (search needs) (search needs)
+    settled-words _ _ _ (start .args .line .now) (start .args .words) _ _ _ _ _ _ _ _ (search needs) (search needs)
     (first .unhex .ensures) (second .unhex2 .ensures) (c .settle .ensures)
 
 pub settle-spec : {M : Type 1} → statement M

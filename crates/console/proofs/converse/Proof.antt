@@ -1,16 +1,16 @@
--- Both buffers stay whole; each turn is one read less.
+-- The buffers stay whole; each turn is one read less.
 use mathlib.Core.Path.{_≡_}
 use lib.ListN.{length}
 use borrow.Author.Needs.{needs}
 use Rattle.commands.proofs.Buffers.{printed-within, printed-count}
-use Rattle.ringswap.proofs.converse.Statement.{statement}
-use Rattle.ringswap.proofs.converse.Tie as tie
+use Rattle.console.proofs.converse.Statement.{statement}
+use Rattle.console.proofs.converse.Tie as tie
 
 abbrev Inv-loop : tie.InvT-loop
-Inv-loop next₀ block₀ out₀ reads₀ next block out reads = (16384 ≡ length block) × (524288 ≡ length out)
+Inv-loop line₀ next₀ block₀ out₀ reads₀ line next block out reads = (length line ≡ length line₀) × (16384 ≡ length block) × (524288 ≡ length out)
 
 abbrev μ-loop : tie.MeasureT-loop
-μ-loop next₀ block₀ out₀ reads₀ next block out reads = reads
+μ-loop line₀ next₀ block₀ out₀ reads₀ line next block out reads = reads
 
 array-share-prefix-last : tie.Need-array-share-prefix-last Inv-loop μ-loop
 array-share-prefix-last c = printed-within (c .finish .ensures) (search needs)
@@ -42,4 +42,5 @@ converse-spec =
     array-share-prefix-last
     slice-aggregate-write-all
     (λ c κs. search needs)
+    (λ c. search needs)
     (λ c. search needs))

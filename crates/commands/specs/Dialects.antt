@@ -1,0 +1,33 @@
+-- Dialects: which commands a program answers, and how long its lines may be.
+use mathlib.Core.Bool.{Bool, true, false, _&&_, _||_, cond}
+use mathlib.Core.List.{List}
+use mathlib.Core.Option.{Option, none}
+use Prim.Native.Nat.{ℕ}
+use lib.Dec.{eqb, leb}
+use lib.ListN.{length, getD}
+use Rattle.model.specs.Limits.{lineLimit}
+use Rattle.model.specs.Lists.{any, ascii}
+use Rattle.model.specs.Calls.{Call}
+use Rattle.commands.specs.Reader.{readCommand}
+use Rattle.commands.specs.declared.Dialect.{Dialect}
+
+-- the letter of a command of document 01, the scope: "`I m k n` issue, `D m k n` redeem, `H m k` holding, `S` exchange proof"
+abbrev pub inScope : ℕ → Bool
+inScope letter = any (eqb letter) (ascii "IDHS")
+
+-- the scope's commands alone, and lines of up to 8,192 bytes without their LF
+abbrev pub ringswap : Dialect
+ringswap = record { longest = lineLimit; every = false }
+
+-- every command, and lines that a rule text in hexadecimal fits into
+abbrev pub thawcroft : Dialect
+thawcroft = record { longest = 40_960; every = true }
+
+-- a line is not too long, and its letter is that of a command that is answered
+unfoldable pub admits : Dialect → List ℕ → Bool
+admits d line = leb (length line) (d .longest) && (d .every || inScope (getD line 0 0))
+
+-- the command that a line is, without its LF; one that the dialect does not have is none
+unfoldable pub commandIn : Dialect → List ℕ → Option Call
+unfolding admits
+commandIn d line = cond (admits d line) (readCommand line) none

@@ -1,0 +1,58 @@
+// Which commands a program answers, and how long its lines may be.
+use crate::Command;
+use crate::Dialect;
+use crate::lines;
+ghost use mathlib.Core.Path.{_≡_};
+ghost use Rattle.commands.specs.Dialects.{inScope, admits, commandIn};
+ghost use Rattle.commands.specs.Dialects as dialects;
+ghost use Rattle.commands.specs.View.{ReadAs};
+
+pub fn ringswap() -> Dialect
+    ensures { λ r. ⌜ r ≡ dialects.ringswap ⌝ }
+{
+    Dialect {
+        longest: 8192,
+        every: false,
+    }
+}
+
+pub fn thawcroft() -> Dialect
+    ensures { λ r. ⌜ r ≡ dialects.thawcroft ⌝ }
+{
+    Dialect {
+        longest: 40960,
+        every: true,
+    }
+}
+
+// Whether a letter is that of a command of document 01, the scope.
+fn in_scope(letter: u8) -> bool
+    ensures { λ r. ⌜ r ≡ inScope letter ⌝ }
+{
+    match letter {
+        b'I' => true,
+        b'D' => true,
+        b'H' => true,
+        b'S' => true,
+        _ => false,
+    }
+}
+
+fn admits(dialect: Dialect, line: &[u8]) -> bool
+    ensures { λ r. ⌜ r ≡ admits dialect (now (line .entry)) ⌝ }
+{
+    if (dialect.longest as usize) < line.len() {
+        return false;
+    }
+    dialect.every | in_scope(ascii::byte(line, 0))
+}
+
+// What a line commands in a dialect, for any bytes: a command that the dialect does not have is ill-formed.
+pub fn read_in(dialect: Dialect, line: &[u8]) -> Command
+    ensures { λ r. ⌜ ReadAs (now (line .entry)) (commandIn dialect (now (line .entry))) r ⌝ }
+{
+    if !admits(dialect, line) {
+        return Command::Bad;
+    }
+    lines::read(line)
+}
