@@ -1,7 +1,7 @@
 # Targets: run, test, fuzz, bench, lib, fmt.
 .PHONY: run test fuzz bench lib fmt
 
-# Proves and builds ringswap, then prints the worked ring.
+# Proves and builds both programs, then prints the worked ring.
 run:
 	@tests/build
 	@cd examples/ring && ../../target/bin/ringswap <input
@@ -15,10 +15,10 @@ fuzz: lib
 	@tests/till/run "$$(date +%s)" 1000000
 	@tests/transcripts "$$(date +%s)" 100000
 
-# The till's library, ringswap and the engine's calls beside plain Rust: docs/BENCHMARKS.md. Blocks that are jumped to are aligned, since
+# The till's library, the programs and the engine's calls beside plain Rust: docs/BENCHMARKS.md. Blocks that are jumped to are aligned, since
 # plain Rust's short loops take up to twice the time where the linker happens to put them across a line of the cache.
 bench: lib
-	@tests/build ringswap bench_calls
+	@tests/build ringswap thawcroft bench_calls
 	@cargo build --offline --quiet --release --manifest-path tests/reference/Cargo.toml
 	@RUSTFLAGS="-C llvm-args=-align-all-nofallthru-blocks=5" cargo build --offline --quiet --release --manifest-path bench/Cargo.toml
 	@bench/target/release/bench

@@ -1,4 +1,4 @@
-//! The till's library, ringswap and the engine's calls beside the second engine. The engine's calls have a program of their own, so that
+//! The till's library, the programs and the engine's calls beside the second engine. The engine's calls have a program of their own, so that
 //! what it uses of the second engine changes nothing in how the compiler lays out the other rows.
 
 #![forbid(unsafe_code)]

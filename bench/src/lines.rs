@@ -1,6 +1,7 @@
-//! Issue lines from a file through ringswap and through the second one.
+//! Issue lines from a file through each program and through the second one of its dialect.
 
 use crate::median;
+use reference::commands::Dialect;
 use reference::random::Random;
 use std::fmt::Write;
 use std::fs::{self, File};
@@ -14,40 +15,109 @@ const LINES: usize = 1_000_000;
 const RUNS: usize = 21;
 
 /// From the repository's folder.
-const PROGRAMS: [&str; 2] = [
-    "target/bin/ringswap",
-    "tests/reference/target/release/plain",
-];
+const OURS: &str = "target/bin";
+const PLAIN: &str = "tests/reference/target/release/plain";
 const FOLDER: &str = "examples/ring";
 const INPUT: &str = "target/issues.txt";
 
-/// Times both programs and prints the table.
+/// Times all programs and prints the table.
 pub fn bench() -> Result<(), String> {
-    let [ours, plain] = rates().map_err(|error| error.to_string())?;
+    let rows = rows().map_err(|error| error.to_string())?;
     println!("| program | ours, commands/s | plain Rust, commands/s | ours / plain |");
     println!("|---|---:|---:|---:|");
-    println!(
-        "| ringswap, 1,000,000 issue lines | {ours:.0} | {plain:.0} | {:.2} |",
-        ours / plain
-    );
+    for Row { dialect, sides } in rows {
+        let [ours, plain] = sides.map(Side::rate);
+        println!(
+            "| {}, 1,000,000 issue lines | {ours:.0} | {plain:.0} | {:.2} |",
+            dialect.name(),
+            ours / plain
+        );
+    }
     println!();
     Ok(())
 }
 
-/// The commands that each program answers in a second.
-fn rates() -> io::Result<[f64; 2]> {
+/// A dialect's programs: ours and the second one.
+struct Row {
+    dialect: Dialect,
+    sides: [Side; 2],
+}
+
+/// A program, and how long its runs took.
+struct Side {
+    command: Command,
+    times: Vec<Duration>,
+}
+
+/// The programs of each dialect, timed by turns.
+fn rows() -> io::Result<Vec<Row>> {
     fs::write(INPUT, issues())?;
-    let outputs = [output(PROGRAMS[0])?, output(PROGRAMS[1])?];
-    if outputs[0] != outputs[1] {
-        return Err(io::Error::other("the programs' answers differ"));
-    }
-    let mut times = [Vec::new(), Vec::new()];
+    let mut rows = Dialect::ALL
+        .into_iter()
+        .map(Row::new)
+        .collect::<io::Result<Vec<_>>>()?;
     for _ in 0..RUNS {
-        for (times, program) in times.iter_mut().zip(PROGRAMS) {
-            times.push(time(program)?);
+        for side in rows.iter_mut().flat_map(|row| &mut row.sides) {
+            side.time()?;
         }
     }
-    Ok(times.map(|mut times| LINES as f64 / median(&mut times).as_secs_f64()))
+    Ok(rows)
+}
+
+impl Row {
+    /// The programs, once both have accepted every line.
+    fn new(dialect: Dialect) -> io::Result<Row> {
+        let ours = Command::new(Path::new(OURS).join(dialect.name()).canonicalize()?);
+        let mut plain = Command::new(Path::new(PLAIN).canonicalize()?);
+        plain.arg(dialect.name());
+        let mut sides = [ours, plain].map(Side::new);
+        for side in &mut sides {
+            let output = side.output()?;
+            if output != accepted().into_bytes() {
+                return Err(io::Error::other(format!(
+                    "{:?}: not all accepted",
+                    side.command
+                )));
+            }
+        }
+        Ok(Row { dialect, sides })
+    }
+}
+
+impl Side {
+    fn new(mut command: Command) -> Side {
+        command.current_dir(FOLDER);
+        Side {
+            command,
+            times: Vec::new(),
+        }
+    }
+
+    fn output(&mut self) -> io::Result<Vec<u8>> {
+        let output = self.command.stdin(File::open(INPUT)?).output()?;
+        Ok(output.stdout)
+    }
+
+    fn time(&mut self) -> io::Result<()> {
+        self.command.stdin(File::open(INPUT)?).stdout(Stdio::null());
+        let start = Instant::now();
+        let status = self.command.status()?;
+        self.times.push(start.elapsed());
+        if !status.success() {
+            return Err(io::Error::other(format!("{:?}: {status}", self.command)));
+        }
+        Ok(())
+    }
+
+    /// The commands that it answers in a second.
+    fn rate(mut self) -> f64 {
+        LINES as f64 / median(&mut self.times).as_secs_f64()
+    }
+}
+
+/// What is printed if every line is accepted over the ring's book.
+fn accepted() -> String {
+    format!("book 3 8\n{}", "0 0\n".repeat(LINES))
 }
 
 /// Lines that are all accepted over the ring's book.
@@ -59,26 +129,4 @@ fn issues() -> String {
         let _ = writeln!(lines, "I {card} {kind} {}", random.below(1_000));
     }
     lines
-}
-
-fn command(program: &str) -> io::Result<Command> {
-    let mut command = Command::new(Path::new(program).canonicalize()?);
-    command.current_dir(FOLDER).stdin(File::open(INPUT)?);
-    Ok(command)
-}
-
-fn output(program: &str) -> io::Result<Vec<u8>> {
-    Ok(command(program)?.output()?.stdout)
-}
-
-fn time(program: &str) -> io::Result<Duration> {
-    let mut command = command(program)?;
-    command.stdout(Stdio::null());
-    let start = Instant::now();
-    let status = command.status()?;
-    let time = start.elapsed();
-    if !status.success() {
-        return Err(io::Error::other(format!("{program}: {status}")));
-    }
-    Ok(time)
 }

@@ -1,4 +1,4 @@
-//! The till's call and ringswap beside the second engine, timed in one run.
+//! The till's call and the programs beside the second engine, timed in one run.
 
 #![forbid(unsafe_code)]
 

@@ -1,6 +1,6 @@
 // bench_calls: the engine's calls, many times each, to be timed.
 //
-// Standard input has three parts with an empty line between them: a rule text; command lines of ringswap's form, each performed once;
+// Standard input has three parts with an empty line between them: a rule text; command lines of the programs' form, each performed once;
 // and such lines, each performed 100,000 times. For each command line is printed how often it was not refused.
 mod calls;
 

@@ -1,5 +1,6 @@
--- ringswap's command lines and answers, as printers: a command is a call of the model, and a line is a command if it is a printed
--- well-formed call. `Theorems.antt` states that the reader takes these lines and no others. Command lines are here without their LF, answers with it.
+-- The programs' command lines and answers, as printers: a command is a call of the model, and a line is a command if it is a printed
+-- well-formed call and the program's dialect admits it (`Dialects.antt`). `Theorems.antt` states that the reader takes these lines and no
+-- others. Command lines are here without their LF, answers with it.
 use mathlib.Core.Bool.{Bool, _&&_, cond}
 use mathlib.Core.List.{List, [], _∷_, _++_}
 use Prim.Native.Char.{code}

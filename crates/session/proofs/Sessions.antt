@@ -78,6 +78,7 @@ module _ (s : Session) (line block out : List ℕ) where
     progress = refl;
     dialect = refl;
     book = refl;
+    beyond = refl;
   }
 
   module _ (h line′ out′ : List ℕ) (taken size kept count : ℕ) where
@@ -97,6 +98,7 @@ module _ (s : Session) (line block out : List ℕ) where
           progress = rw m (sym (rw z at (v .progress)));
           dialect = refl;
           book = refl;
+          beyond = rw (le-leb (lineRoom d) (length line) l) (v .beyond);
         }
 
 -- no more is taken than there is

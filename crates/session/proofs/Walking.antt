@@ -167,6 +167,7 @@ module _ (d : Dialect) (cards rules h line : List ℕ) (size : ℕ) (block out :
     unended-left line′ kept k = record {
       progress = part-after d b (stateFrom h) (take size line) block short plain ∙ rw (k .bytes, all);
       within = k .within;
+      beyond = k .beyond;
     }
 
   -- its first LF ends the line, then come the lines of the rest, and what is left
@@ -229,4 +230,5 @@ module _ (d : Dialect) (cards rules h line : List ℕ) (size : ℕ) (block out :
         record {
           progress = block-after ∙ rw (m .bytes, to-end block (end + 1 + rest), place);
           within = m .within;
+          beyond = m .beyond ∙ k .beyond;
         }

@@ -1,4 +1,4 @@
-// What calls answer, printed after their labels as ringswap prints it.
+// What calls answer, printed after their labels as the programs print it.
 use answers::Reply;
 use commands::Command;
 use engine::Engine;

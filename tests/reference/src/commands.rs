@@ -1,36 +1,69 @@
-//! The program `ringswap` over the plain engine: command lines read, answers printed.
+//! The programs `ringswap` and `thawcroft` over the plain engine: command lines read, answers
+//! printed.
 
 use crate::book::Refusal;
 use crate::engine::Engine;
 
-/// Longest command line in bytes, its LF not counted.
-pub const MAX_LINE: usize = 8_192;
-
 const BAD: &[u8] = b"bad\n";
-const DONE: &[u8] = b"0 0\n";
 
-/// What the program prints for the bytes of `book.txt`, if they can be read, and its input.
-pub fn ringswap(book: Option<&[u8]>, input: &[u8]) -> Vec<u8> {
-    let mut out = Vec::new();
-    if let Some(mut session) = Session::open(book, &mut out) {
-        session.feed(input, &mut out);
-        session.finish(&mut out);
-    }
-    out
+/// Which commands a program answers, and how long its lines may be.
+#[derive(Clone, Copy, Debug, PartialEq, Eq)]
+pub enum Dialect {
+    /// Document 01's four commands.
+    Ringswap,
+    /// Every command.
+    Thawcroft,
 }
 
-/// A run of the program after its book was opened. Input may come in pieces of any size.
+impl Dialect {
+    pub const ALL: [Dialect; 2] = [Dialect::Ringswap, Dialect::Thawcroft];
+
+    /// The dialect of the program of this name.
+    pub fn named(name: &str) -> Option<Dialect> {
+        Dialect::ALL
+            .into_iter()
+            .find(|dialect| dialect.name() == name)
+    }
+
+    pub const fn name(self) -> &'static str {
+        match self {
+            Dialect::Ringswap => "ringswap",
+            Dialect::Thawcroft => "thawcroft",
+        }
+    }
+
+    /// Longest command line in bytes, its LF not counted.
+    pub const fn longest_line(self) -> usize {
+        match self {
+            Dialect::Ringswap => 8_192,
+            Dialect::Thawcroft => 40_960,
+        }
+    }
+
+    /// What its program prints for the bytes of its book, if they can be read, and its input.
+    pub fn output(self, book: Option<&[u8]>, input: &[u8]) -> Vec<u8> {
+        let mut out = Vec::new();
+        if let Some(mut session) = Session::open(self, book, &mut out) {
+            session.feed(input, &mut out);
+            session.finish(&mut out);
+        }
+        out
+    }
+}
+
+/// A run of a program after its book was opened. Input may come in pieces of any size.
 pub struct Session {
+    dialect: Dialect,
     engine: Engine,
     /// A line whose LF has not come yet, up to one byte more than a line may have.
     partial: Vec<u8>,
-    /// Room for the bytes of a settlement; a hexadecimal word is shorter than its line.
-    bytes: [u8; MAX_LINE / 2],
+    /// Room for the bytes of a command; a hexadecimal word is shorter than its line.
+    bytes: Vec<u8>,
 }
 
 impl Session {
     /// Prints the book's answer; without an opened book there is nothing to run.
-    pub fn open(book: Option<&[u8]>, out: &mut Vec<u8>) -> Option<Session> {
+    pub fn open(dialect: Dialect, book: Option<&[u8]>, out: &mut Vec<u8>) -> Option<Session> {
         let Some(text) = book else {
             out.extend_from_slice(BAD);
             return None;
@@ -46,9 +79,10 @@ impl Session {
         print_number(engine.book().rules.len() as u32, out);
         out.push(b'\n');
         Some(Session {
+            dialect,
             engine,
-            partial: Vec::with_capacity(MAX_LINE + 1),
-            bytes: [0; MAX_LINE / 2],
+            partial: Vec::with_capacity(dialect.longest_line() + 1),
+            bytes: vec![0; dialect.longest_line() / 2],
         })
     }
 
@@ -79,38 +113,37 @@ impl Session {
 
     /// Keeps a piece of a line; of a line that is too long only so much that this shows.
     fn keep(&mut self, piece: &[u8]) {
-        let room = MAX_LINE + 1 - self.partial.len();
+        let room = self.dialect.longest_line() + 1 - self.partial.len();
         self.partial
             .extend_from_slice(&piece[..piece.len().min(room)]);
     }
 
     fn answer(&mut self, line: &[u8], out: &mut Vec<u8>) {
-        let command = if line.len() > MAX_LINE {
+        let command = if line.len() > self.dialect.longest_line() {
             None
         } else {
-            Command::read(line, &mut self.bytes)
+            Command::read(self.dialect, line, &mut self.bytes)
         };
+        let Some(command) = command else {
+            return out.extend_from_slice(BAD);
+        };
+        let engine = &mut self.engine;
         let answer = match command {
-            None => return out.extend_from_slice(BAD),
-            Some(Command::Issue(card, kind, count)) => {
-                self.engine.issue(card, kind, count).map(|()| None)
+            Command::Issue(card, kind, count) => {
+                engine.issue(card, kind, count).map(|()| print_done(out))
             }
-            Some(Command::Redeem(card, kind, count)) => {
-                self.engine.redeem(card, kind, count).map(|()| None)
+            Command::Redeem(card, kind, count) => {
+                engine.redeem(card, kind, count).map(|()| print_done(out))
             }
-            Some(Command::Holding(card, kind)) => self.engine.holding(card, kind).map(Some),
-            Some(Command::Settle(exchange, proof)) => {
-                self.engine.settle(exchange, proof).map(|()| None)
+            Command::Holding(card, kind) => {
+                engine.holding(card, kind).map(|held| print_held(held, out))
+            }
+            Command::Settle(exchange, proof) => {
+                engine.settle(exchange, proof).map(|()| print_done(out))
             }
         };
-        match answer {
-            Err(refusal) => print_refusal(refusal, out),
-            Ok(None) => out.extend_from_slice(DONE),
-            Ok(Some(held)) => {
-                out.extend_from_slice(b"= ");
-                print_number(held, out);
-                out.push(b'\n');
-            }
+        if let Err(refusal) = answer {
+            print_refusal(refusal, out);
         }
     }
 }
@@ -124,15 +157,16 @@ enum Command<'b> {
 }
 
 impl<'b> Command<'b> {
-    fn read(line: &[u8], bytes: &'b mut [u8]) -> Option<Command<'b>> {
+    fn read(dialect: Dialect, line: &[u8], bytes: &'b mut [u8]) -> Option<Command<'b>> {
         let mut words = line.split(|&byte| byte == b' ');
         let letter = words.next()?;
         let mut word = || words.next();
-        let command = match letter {
-            b"I" => Command::Issue(number(word()?)?, number(word()?)?, number(word()?)?),
-            b"D" => Command::Redeem(number(word()?)?, number(word()?)?, number(word()?)?),
-            b"H" => Command::Holding(number(word()?)?, number(word()?)?),
-            b"S" => {
+        // A command with a dialect's name in place of `_` is of that dialect alone.
+        let command = match (letter, dialect) {
+            (b"I", _) => Command::Issue(number(word()?)?, number(word()?)?, number(word()?)?),
+            (b"D", _) => Command::Redeem(number(word()?)?, number(word()?)?, number(word()?)?),
+            (b"H", _) => Command::Holding(number(word()?)?, number(word()?)?),
+            (b"S", _) => {
                 let (exchange, bytes) = hexadecimal(word()?, bytes)?;
                 let (proof, _) = hexadecimal(word()?, bytes)?;
                 Command::Settle(exchange, proof)
@@ -188,6 +222,16 @@ const NIBBLES: [u8; 256] = {
     }
     nibbles
 };
+
+fn print_done(out: &mut Vec<u8>) {
+    out.extend_from_slice(b"0 0\n");
+}
+
+fn print_held(held: u32, out: &mut Vec<u8>) {
+    out.extend_from_slice(b"= ");
+    print_number(held, out);
+    out.push(b'\n');
+}
 
 fn print_refusal(refusal: Refusal, out: &mut Vec<u8>) {
     print_number(refusal.number.into(), out);

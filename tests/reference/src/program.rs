@@ -1,5 +1,6 @@
-//! Runs a `ringswap` program in a fresh folder, as the runners need it.
+//! Runs a program in a fresh folder, as the runners need it.
 
+use crate::commands::Dialect;
 use crate::generate::BookFile;
 use std::fs;
 use std::io::{self, Read, Write};
@@ -20,7 +21,7 @@ impl Folder {
     fn new(book: &BookFile) -> io::Result<Folder> {
         static NUMBER: AtomicU32 = AtomicU32::new(0);
         let number = NUMBER.fetch_add(1, Ordering::Relaxed);
-        let name = format!("ringswap-{}-{number}", std::process::id());
+        let name = format!("transcript-{}-{number}", std::process::id());
         let folder = Folder(std::env::temp_dir().join(name));
         fs::create_dir(&folder.0)?;
         let path = folder.0.join("book.txt");
@@ -40,26 +41,80 @@ impl Drop for Folder {
     }
 }
 
-/// A started program with pipes at both ends, ended when it is dropped.
+/// A program under test.
 pub struct Program {
-    child: Child,
-    _folder: Folder,
+    path: PathBuf,
+    pub dialect: Dialect,
 }
 
 impl Program {
-    pub fn start(path: &Path, book: &BookFile) -> io::Result<Program> {
+    /// The program at a path; its file's name tells the dialect.
+    pub fn at(path: &str) -> Result<Program, String> {
+        let name = Path::new(path).file_name().and_then(|name| name.to_str());
+        let dialect = name.and_then(Dialect::named);
+        Ok(Program {
+            dialect: dialect.ok_or_else(|| format!("{path}: no dialect has this name"))?,
+            path: fs::canonicalize(path).map_err(|error| format!("{path}: {error}"))?,
+        })
+    }
+
+    pub fn start(&self, book: &BookFile) -> io::Result<Process> {
         let folder = Folder::new(book)?;
-        let child = Command::new(path.canonicalize()?)
+        let child = Command::new(&self.path)
             .current_dir(&folder.0)
             .stdin(Stdio::piped())
             .stdout(Stdio::piped())
             .spawn()?;
-        Ok(Program {
+        Ok(Process {
             child,
             _folder: folder,
         })
     }
 
+    /// Runs the program to its end, with its input written in pieces, and answers its output.
+    pub fn run(&self, book: &BookFile, pieces: &[&[u8]]) -> io::Result<Vec<u8>> {
+        let mut process = self.start(book)?;
+        let (mut input, mut output) = (process.input(), process.output());
+        thread::scope(|scope| {
+            scope.spawn(move || {
+                for piece in pieces {
+                    // A program that stops at its book leaves the input unread.
+                    if input.write_all(piece).is_err() {
+                        break;
+                    }
+                }
+            });
+            let (sender, receiver) = mpsc::channel();
+            scope.spawn(move || {
+                let mut bytes = Vec::new();
+                let read = output.read_to_end(&mut bytes);
+                // Nobody receives any more if the time is over.
+                let _ = sender.send(read.map(|_| bytes));
+            });
+            let received = receiver.recv_timeout(PATIENCE);
+            // Ending the program, in time or not, closes its pipes and so ends both threads.
+            match received {
+                Ok(bytes) => match process.end()? {
+                    // No code means that it was killed; which code goes with a refused book is open.
+                    status if status.code().is_none() => Err(io::Error::other(status.to_string())),
+                    _ => bytes,
+                },
+                Err(_) => {
+                    drop(process);
+                    Err(io::ErrorKind::TimedOut.into())
+                }
+            }
+        })
+    }
+}
+
+/// A started program with pipes at both ends, ended when it is dropped.
+pub struct Process {
+    child: Child,
+    _folder: Folder,
+}
+
+impl Process {
     /// The end that the program reads from; dropping it ends the program's input.
     pub fn input(&mut self) -> impl Write + Send {
         self.child.stdin.take().expect("the input is taken once")
@@ -82,46 +137,10 @@ impl Program {
     }
 }
 
-impl Drop for Program {
+impl Drop for Process {
     fn drop(&mut self) {
         // One that has ended by itself refuses to be ended; that is as well.
         let _ = self.child.kill();
         let _ = self.child.wait();
     }
-}
-
-/// Runs the program to its end, with its input written in pieces, and answers its output.
-pub fn run(path: &Path, book: &BookFile, pieces: &[&[u8]]) -> io::Result<Vec<u8>> {
-    let mut program = Program::start(path, book)?;
-    let (mut input, mut output) = (program.input(), program.output());
-    thread::scope(|scope| {
-        scope.spawn(move || {
-            for piece in pieces {
-                // A program that stops at its book leaves the input unread.
-                if input.write_all(piece).is_err() {
-                    break;
-                }
-            }
-        });
-        let (sender, receiver) = mpsc::channel();
-        scope.spawn(move || {
-            let mut bytes = Vec::new();
-            let read = output.read_to_end(&mut bytes);
-            // Nobody receives any more if the time is over.
-            let _ = sender.send(read.map(|_| bytes));
-        });
-        let received = receiver.recv_timeout(PATIENCE);
-        // Ending the program, in time or not, closes its pipes and so ends both threads.
-        match received {
-            Ok(bytes) => match program.end()? {
-                // No code means that it was killed; which code goes with a refused book is open.
-                status if status.code().is_none() => Err(io::Error::other(status.to_string())),
-                _ => bytes,
-            },
-            Err(_) => {
-                drop(program);
-                Err(io::ErrorKind::TimedOut.into())
-            }
-        }
-    })
 }

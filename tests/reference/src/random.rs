@@ -37,6 +37,16 @@ impl Random {
         items[self.below(items.len())]
     }
 
+    /// One of the items, each as often as its number says.
+    pub fn weighted<T: Copy>(&mut self, items: &[(usize, T)]) -> T {
+        let total = items.iter().map(|&(times, _)| times).sum();
+        let mut each = items
+            .iter()
+            .flat_map(|&(times, item)| std::iter::repeat_n(item, times));
+        each.nth(self.below(total))
+            .expect("the place is below the total")
+    }
+
     pub fn byte(&mut self) -> u8 {
         self.draw() as u8
     }

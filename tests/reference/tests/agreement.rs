@@ -1,10 +1,10 @@
 //! The parts set beside each other over generated input.
 
 use reference::book::{Book, MAX_TEXT};
-use reference::commands::{ringswap, Session};
+use reference::commands::{Dialect, Session};
 use reference::decider::Decider;
 use reference::engine::{Engine, HOLDINGS, MAX_SUM};
-use reference::generate::{self, Settlement, Swap, Transcript};
+use reference::generate::{self, long_settlement, Settlement, Swap, Transcript};
 use reference::random::Random;
 use reference::{ring, search, till};
 
@@ -94,16 +94,33 @@ fn till_asks_about_holdings_between_text_and_exchange() {
 fn pieces_of_input_change_nothing() {
     for case in 0..100 {
         let random = &mut Random::new(9, case);
-        let Transcript { book, input } = Transcript::some(random);
-        let mut out = Vec::new();
-        if let Some(mut session) = Session::open(book.text(), &mut out) {
-            let size = random.pick(&[1, 7, 8_191, 8_192]);
-            for piece in input.chunks(size) {
-                session.feed(piece, &mut out);
+        let transcript = Transcript::some(random);
+        let size = random.pick(&[1, 7, 8_191, 8_192, 40_959, 40_960]);
+        for dialect in Dialect::ALL {
+            let mut out = Vec::new();
+            if let Some(mut session) = Session::open(dialect, transcript.book.text(), &mut out) {
+                for piece in transcript.input.chunks(size) {
+                    session.feed(piece, &mut out);
+                }
+                session.finish(&mut out);
             }
-            session.finish(&mut out);
+            assert_eq!(out, transcript.expected(dialect));
         }
-        assert_eq!(out, ringswap(book.text(), &input));
+    }
+}
+
+#[test]
+fn tables_have_lines_at_each_limit() {
+    let transcripts = Transcript::every(&mut Random::new(11, 0));
+    for limit in [8_192, 40_960] {
+        for length in limit - 1..=limit + 1 {
+            let line = long_settlement(length);
+            let has = |transcript: &Transcript| {
+                let mut lines = transcript.input.split(|&byte| byte == b'\n');
+                lines.any(|other| other == line)
+            };
+            assert!(transcripts.iter().any(has), "{length}");
+        }
     }
 }
 
@@ -128,7 +145,10 @@ fn generated_books_are_what_they_are_called() {
 
 #[test]
 fn book_that_does_not_open_ends_the_run() {
-    assert_eq!(ringswap(None, b"H 1 1\n"), b"bad\n");
-    assert_eq!(ringswap(Some(b"X\n"), b"H 1 1\n"), b"2 1\n");
-    assert_eq!(ringswap(Some(&[b'X'; MAX_TEXT + 1]), b"H 1 1\n"), b"1 0\n");
+    for dialect in Dialect::ALL {
+        let output = |book| dialect.output(book, b"H 1 1\n");
+        assert_eq!(output(None), b"bad\n");
+        assert_eq!(output(Some(b"X\n")), b"2 1\n");
+        assert_eq!(output(Some(&[b'X'; MAX_TEXT + 1])), b"1 0\n");
+    }
 }

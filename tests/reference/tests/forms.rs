@@ -1,8 +1,9 @@
 //! Tables of rule texts, command lines and proofs with the answers that they must get.
 
 use reference::book::{Book, Refusal};
-use reference::commands::{ringswap, MAX_LINE};
+use reference::commands::Dialect;
 use reference::engine::Engine;
+use reference::generate::long_settlement;
 use reference::ring;
 
 const CARD: &str = "C 700012000019\n";
@@ -84,10 +85,10 @@ fn group_below_its_rule_counts() {
     assert_eq!(engine.settle(&[1, 1, 2], &proof), Ok(()));
 }
 
-/// The program's answer to one line over the ring's book, after one token each was issued.
-fn answer(line: &[u8]) -> String {
-    let input = [b"I 1 1 1\nI 2 2 1\nI 3 3 1\n", line].concat();
-    let output = ringswap(Some(ring::BOOK.as_bytes()), &input);
+/// A program's answers to some lines over the ring's book, after one token each was issued.
+fn answers(dialect: Dialect, lines: &[u8]) -> String {
+    let input = [b"I 1 1 1\nI 2 2 1\nI 3 3 1\n", lines].concat();
+    let output = dialect.output(Some(ring::BOOK.as_bytes()), &input);
     let output = String::from_utf8(output).expect("answers are ASCII");
     let answers: Vec<_> = output.lines().skip(4).collect();
     answers.join("|")
@@ -155,20 +156,79 @@ fn command_lines() {
         (b"S 010102010102 020101000203000000000000\n", "20 1"),
     ];
     for &(line, expected) in table {
-        assert_eq!(answer(line), expected, "{}", line.escape_ascii());
+        for dialect in Dialect::ALL {
+            let answers = answers(dialect, line);
+            assert_eq!(answers, expected, "{dialect:?}: {}", line.escape_ascii());
+        }
+    }
+}
+
+#[test]
+fn commands_that_01_does_not_have() {
+    // With thawcroft's answer; ringswap's is always the same.
+    let table = [
+        ("F 010102", "bad"),
+        ("A 1 1 1", "bad"),
+        ("R 1 1 1", "bad"),
+        ("T -", "bad"),
+        ("X 010102 01000000010100000203000000000000", "bad"),
+        ("M 1", "bad"),
+        ("B 18446744073709551615", "bad"),
+    ];
+    for (line, expected) in table {
+        assert_eq!(answers(Dialect::Ringswap, line.as_bytes()), "bad", "{line}");
+        let answers = answers(Dialect::Thawcroft, line.as_bytes());
+        assert_eq!(answers, expected, "{line}");
     }
 }
 
 #[test]
 fn long_lines() {
-    let long = |start: &str, length: usize| {
-        let filler = "0".repeat(length - start.len());
-        answer(format!("{start}{filler}\nH 1 1").as_bytes())
-    };
-    assert_eq!(long("S - ", MAX_LINE), "12 0|= 1");
-    assert_eq!(long("S 010102 ", MAX_LINE - 1), "14 0|= 1");
-    assert_eq!(long("S 010102 ", MAX_LINE), "bad|= 1");
-    assert_eq!(long("S 010102 ", MAX_LINE + 1), "bad|= 1");
-    assert_eq!(long("S - ", 10 * MAX_LINE), "bad|= 1");
-    assert_eq!(answer(&vec![b'x'; 3 * MAX_LINE]), "bad");
+    // By ringswap and by thawcroft.
+    let table = [
+        (8_191, ["14 0", "14 0"]),
+        (8_192, ["12 0", "12 0"]),
+        (8_193, ["bad", "14 0"]),
+        (8_194, ["bad", "12 0"]),
+        (40_959, ["bad", "14 0"]),
+        (40_960, ["bad", "12 0"]),
+        (40_961, ["bad", "bad"]),
+        (40_962, ["bad", "bad"]),
+        (300_001, ["bad", "bad"]),
+    ];
+    for (length, expected) in table {
+        let line = long_settlement(length);
+        assert_eq!(line.len(), length);
+        let odd = [&line[..], b"0"].concat();
+        for (dialect, expected) in Dialect::ALL.into_iter().zip(expected) {
+            let input = [&line[..], b"\nH 1 1\n", &odd, b"\nH 2 2"].concat();
+            let expected = format!("{expected}|= 1|bad|= 1");
+            assert_eq!(answers(dialect, &input), expected, "{dialect:?} {length}");
+        }
+    }
+    for dialect in Dialect::ALL {
+        assert_eq!(answers(dialect, &[b'x'; 100_000]), "bad");
+    }
+}
+
+#[test]
+fn long_words() {
+    // Bytes of the exchange and of the proof, with thawcroft's answer.
+    let table = [
+        (96, 3_060, "13 1"),
+        (99, 3_060, "12 0"),
+        (20_475, 0, "12 0"),
+        (0, 20_475, "12 0"),
+    ];
+    for (exchange, proof, expected) in table {
+        let word = |bytes| {
+            if bytes == 0 {
+                "-".into()
+            } else {
+                "00".repeat(bytes)
+            }
+        };
+        let line = format!("S {} {}", word(exchange), word(proof));
+        assert_eq!(answers(Dialect::Thawcroft, line.as_bytes()), expected);
+    }
 }

@@ -1,7 +1,7 @@
 //! The ring of three, and the swaps that document 01 lists, over the plain engine and the decider.
 
 use reference::book::{Book, Refusal, Transfer};
-use reference::commands::ringswap;
+use reference::commands::Dialect;
 use reference::decider::Decider;
 use reference::engine::Engine;
 use reference::{ring, search};
@@ -78,8 +78,10 @@ fn assert_unfair(exchange: &str) {
 
 #[test]
 fn ring_whole() {
-    let output = ringswap(Some(ring::BOOK.as_bytes()), ring::INPUT.as_bytes());
-    assert_eq!(String::from_utf8(output).as_deref(), Ok(ring::OUTPUT));
+    for dialect in Dialect::ALL {
+        let output = dialect.output(Some(ring::BOOK.as_bytes()), ring::INPUT.as_bytes());
+        assert_eq!(String::from_utf8(output).as_deref(), Ok(ring::OUTPUT));
+    }
 }
 
 #[test]
@@ -159,7 +161,9 @@ fn p11_empty_text_opens() {
     let (engine, answer) = open("");
     assert_eq!(answer, Ok(()));
     assert!(engine.book().cards.is_empty() && engine.book().rules.is_empty());
-    assert_eq!(ringswap(Some(b""), b"H 1 1\n"), b"book 0 0\n8 0\n");
+    for dialect in Dialect::ALL {
+        assert_eq!(dialect.output(Some(b""), b"H 1 1\n"), b"book 0 0\n8 0\n");
+    }
 }
 
 #[test]

@@ -22,6 +22,7 @@ pub record PartKept (room : ℕ) (line : List ℕ) (size : ℕ) (part line′ : 
   pub bytes : take size′ line′ ≡ take room (take size line ++ part)
   pub within : size′ ≤ room
   pub long : length line′ ≡ length line
+  pub beyond : drop room line′ ≡ drop room line
 
 -- ---- a line over the tables and the holdings h
 
@@ -62,3 +63,4 @@ pub record BlockSaid (d : Dialect) (cards rules h line : List ℕ) (size : ℕ) 
 pub record BlockLeft (d : Dialect) (cards rules h line : List ℕ) (size : ℕ) (block h′ line′ : List ℕ) (size′ : ℕ) : Type 0 where
   pub progress : afterBlock d (bookOf cards rules) (progressFrom h line size) block ≡ progressFrom h′ line′ size′
   pub within : size′ ≤ lineRoom d
+  pub beyond : drop (lineRoom d) line′ ≡ drop (lineRoom d) line

@@ -1,58 +1,56 @@
-//! Talks with a `ringswap` program over pipes, one command at a time, and expects every answer
-//! before the next command is written.
+//! Talks with each program over pipes, one command at a time, and expects every answer before the
+//! next command is written.
 
 #![forbid(unsafe_code)]
 
-use reference::commands::{Session, MAX_LINE};
-use reference::generate::BookFile;
+use reference::commands::{Dialect, Session};
+use reference::generate::{long_settlement, BookFile};
 use reference::program::{Program, PATIENCE};
 use reference::ring;
 use std::io::{BufRead, BufReader, Write};
-use std::path::Path;
 use std::process::ExitCode;
 use std::sync::mpsc::{self, Receiver};
 use std::thread;
 use std::time::Duration;
 
 fn main() -> ExitCode {
-    let arguments: Vec<String> = std::env::args().skip(1).collect();
-    let [path] = arguments.as_slice() else {
-        eprintln!("usage: conversation PATH-TO-RINGSWAP");
+    let paths: Vec<String> = std::env::args().skip(1).collect();
+    if paths.is_empty() {
+        eprintln!("usage: conversation PROGRAM...");
         return ExitCode::from(2);
-    };
-    match converse(Path::new(path)) {
-        Ok(answers) => {
-            println!("{answers} answers, each in time");
-            ExitCode::SUCCESS
-        }
-        Err(complaint) => {
-            println!("{complaint}");
-            ExitCode::FAILURE
+    }
+    for path in &paths {
+        match Program::at(path).and_then(|program| converse(&program)) {
+            Ok(answers) => println!("{path}: {answers} answers, each in time"),
+            Err(complaint) => {
+                println!("{path}: {complaint}");
+                return ExitCode::FAILURE;
+            }
         }
     }
+    ExitCode::SUCCESS
 }
 
-fn converse(path: &Path) -> Result<usize, String> {
+fn converse(program: &Program) -> Result<usize, String> {
     let book = BookFile::Text(ring::BOOK.into());
-    let mut program = Program::start(path, &book).map_err(|error| error.to_string())?;
-    let mut input = program.input();
-    let answers = watch(program.output());
+    let mut process = program.start(&book).map_err(|error| error.to_string())?;
+    let mut input = process.input();
+    let answers = watch(process.output());
 
     let mut expected = Vec::new();
-    let mut session = Session::open(book.text(), &mut expected).ok_or("the ring's book opens")?;
+    let mut session = Session::open(program.dialect, book.text(), &mut expected)
+        .ok_or("the ring's book does not open")?;
     expect(&answers, &mut expected, "the book")?;
     let lines = lines();
-    for line in &lines {
-        let mut said = line.as_slice();
-        session.feed(said, &mut expected);
+    for (line, cut) in &lines {
+        session.feed(line, &mut expected);
+        let (first, second) = line.split_at(*cut);
+        write(&mut input, first)?;
         // A line in two parts must be waited for; the pause lets the first part arrive alone.
-        if line.len() % 3 == 0 {
-            let (first, second) = line.split_at(line.len() / 2);
-            write(&mut input, first)?;
+        if !second.is_empty() {
             thread::sleep(Duration::from_millis(20));
-            said = second;
+            write(&mut input, second)?;
         }
-        write(&mut input, said)?;
         expect(&answers, &mut expected, &shown(line))?;
     }
 
@@ -65,15 +63,35 @@ fn converse(path: &Path) -> Result<usize, String> {
     if let Ok(more) = answers.recv_timeout(PATIENCE) {
         return Err(format!("an answer too many: {}", shown(&more)));
     }
-    match program.end() {
+    match process.end() {
         Ok(status) if status.success() => Ok(lines.len() + 2),
         Ok(status) => Err(format!("no clean end: {status}")),
         Err(error) => Err(format!("no end: {error}")),
     }
 }
 
-/// The ring again and again, with refusals and ill-formed lines of every length between.
-fn lines() -> Vec<Vec<u8>> {
+/// Lines, and where each of them is cut; those that are not are cut at their end.
+fn lines() -> Vec<(Vec<u8>, usize)> {
+    let cut = |line: Vec<u8>| {
+        let parts = if line.len().is_multiple_of(3) { 2 } else { 1 };
+        let cut = line.len() / parts;
+        (line, cut)
+    };
+    let mut lines: Vec<_> = short_lines().into_iter().map(cut).collect();
+    for limit in Dialect::ALL.map(Dialect::longest_line) {
+        for length in [limit - 1, limit, limit + 1, 3 * limit] {
+            lines.push(cut([&long_settlement(length)[..], b"\n"].concat()));
+        }
+        // What follows when a line is too long already is no line of its own.
+        for length in [limit, limit + 1, 3 * limit] {
+            lines.push((format!("{}H 1 1\n", "x".repeat(length)).into(), length));
+        }
+    }
+    lines
+}
+
+/// The ring again and again, with refusals and ill-formed lines between.
+fn short_lines() -> Vec<Vec<u8>> {
     let mut lines = Vec::new();
     for round in 0..20 {
         lines.extend(ring::INPUT.lines().map(|line| format!("{line}\n").into()));
@@ -81,9 +99,6 @@ fn lines() -> Vec<Vec<u8>> {
         lines.push(format!("D 1 1 {round}\n").into());
         lines.push(format!("I 9 1 {round}\n").into());
         lines.push(format!("{}\n", "x".repeat(round)).into());
-    }
-    for length in [MAX_LINE - 1, MAX_LINE, MAX_LINE + 1, 3 * MAX_LINE] {
-        lines.push(format!("S - {}\n", "0".repeat(length - 4)).into());
     }
     lines
 }

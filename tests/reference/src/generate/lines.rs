@@ -1,12 +1,14 @@
-//! Command lines that are ill-formed, nearly so, or too long.
+//! Command lines that are ill-formed, nearly so, too long, or of one dialect alone.
 
-use crate::commands::MAX_LINE;
+use super::books::small;
+use crate::commands::Dialect;
 use crate::random::Random;
 
 /// Bytes that spoil a line, or turn it into another right one.
-const NEAR_MISSES: &[u8] = b"\0\t\r  -+.,0123456789AFafgxIDHS\x80\xff";
+const NEAR_MISSES: &[u8] = b"\0\t\r  -+.,0123456789AFafgxIDHSRTXMB\x80\xff";
 
-const ILL_FORMED: [&str; 77] = [
+/// Lines that are ill-formed in every dialect.
+const ILL_FORMED: [&str; 87] = [
     "",
     " ",
     "-",
@@ -80,7 +82,17 @@ const ILL_FORMED: [&str; 77] = [
     "S 0g -",
     "S - -\r",
     "s - -",
+    "F",
+    "F 010",
+    "F 010102 -",
+    "A 1 1",
+    "R 1 1 -1",
+    "T",
+    "X 010102",
     "X 1 1 1",
+    "M",
+    "M -1",
+    "B 18446744073709551616",
     "= 1",
     "book 1 1",
     "bad",
@@ -106,35 +118,72 @@ const EXTREME: [&str; 16] = [
     "S - 000000000000000000000000",
 ];
 
-/// Beginnings of long lines and what fills them up. Those of hexadecimal words are right but for
-/// their length.
-const LONG: [(&str, &str); 7] = [
-    ("S - ", "0"),
-    ("S 010102 ", "0"),
-    ("S 010102 ", "f"),
-    ("I 1 1 ", "1"),
-    ("S ", "A"),
-    ("", "\0"),
-    ("", " "),
+/// The commands that 01 does not have; `word` makes each of their words.
+const FOREIGN: [&str; 7] = [
+    "F exchange",
+    "A card kind count",
+    "R card kind count",
+    "T text",
+    "X exchange tree",
+    "M name",
+    "B name",
+];
+
+/// Beginnings of long lines, what fills them up, and their ends. Those of hexadecimal words are
+/// right but for their length, if an even number of digits fills them. What ends as a command does
+/// is none.
+const LONG: [(&str, &str, &str); 11] = [
+    ("S - ", "0", ""),
+    ("S 010102 ", "0", ""),
+    ("S 010102 ", "f", ""),
+    ("S ", "0", " -"),
+    ("S ", "0", " 00"),
+    ("T ", "0", ""),
+    ("I 1 1 ", "1", ""),
+    ("S ", "A", ""),
+    ("", "\0", ""),
+    ("", " ", ""),
+    ("", "x", "H 1 1"),
 ];
 
 /// Every line of the tables, and the long lines about as long as a line may be.
-pub fn every() -> Vec<Vec<u8>> {
+pub fn every(random: &mut Random) -> Vec<Vec<u8>> {
     let short = ILL_FORMED.iter().chain(&EXTREME).map(|&line| line.into());
-    let long = LONG.iter().flat_map(|&(start, filler)| {
-        (MAX_LINE - 2..=MAX_LINE + 2).map(move |length| filled(start, filler, length))
+    let foreign = FOREIGN.iter().map(|form| foreign(form, random));
+    let long = Dialect::ALL.into_iter().flat_map(|dialect| {
+        let lengths = about_longest(dialect).into_iter();
+        lengths.flat_map(|length| LONG.map(|form| filled(form, length)))
     });
-    short.chain(long).collect()
+    short.chain(foreign).chain(long).collect()
 }
 
 /// A line for which `bad` or a refusal is the likely answer.
 pub fn unlikely(random: &mut Random) -> Vec<u8> {
-    match random.below(6) {
+    match random.below(7) {
         0 => EXTREME[random.below(EXTREME.len())].into(),
         1 => long(random),
         2 => noise(random),
+        3 => foreign(random.pick(&FOREIGN), random),
         _ => ILL_FORMED[random.below(ILL_FORMED.len())].into(),
     }
+}
+
+/// A well-formed settlement of so many bytes, which is refused or too long.
+pub fn long_settlement(length: usize) -> Vec<u8> {
+    let start = if length.is_multiple_of(2) {
+        "S - "
+    } else {
+        "S 010102 "
+    };
+    filled((start, "0", ""), length)
+}
+
+/// The digits of a word, or `-` for no bytes.
+pub fn hexadecimal(bytes: &[u8]) -> String {
+    if bytes.is_empty() {
+        return "-".into();
+    }
+    bytes.iter().map(|byte| format!("{byte:02x}")).collect()
 }
 
 /// The line with one byte changed, added or taken away.
@@ -152,20 +201,53 @@ pub fn damaged(mut line: Vec<u8>, random: &mut Random) -> Vec<u8> {
     line
 }
 
-/// A line about as long as a line may be, or far longer.
-fn long(random: &mut Random) -> Vec<u8> {
-    let (start, filler) = random.pick(&LONG);
-    let length = match random.below(8) {
-        0 => 20_000,
-        1 => 300_000,
-        _ => random.within(MAX_LINE - 3, MAX_LINE + 3),
-    };
-    filled(start, filler, length)
+/// A command of this form.
+fn foreign(form: &str, random: &mut Random) -> Vec<u8> {
+    let words: Vec<_> = form.split(' ').map(|name| word(name, random)).collect();
+    words.join(" ").into()
 }
 
-fn filled(start: &str, filler: &str, length: usize) -> Vec<u8> {
-    let filling = filler.repeat(length - start.len());
-    [start.as_bytes(), filling.as_bytes()].concat()
+/// A right word of this name; a command's letter is its own.
+fn word(name: &str, random: &mut Random) -> String {
+    match name {
+        "card" | "kind" => random.within(1, 4).to_string(),
+        "count" => random.below(10).to_string(),
+        "name" => random.pick(&[0, 1, 2, 3, 4, u64::MAX]).to_string(),
+        "exchange" => {
+            let numbers = 3 * random.below(4);
+            let transfers: Vec<u8> = (0..numbers).map(|_| random.within(1, 3) as u8).collect();
+            hexadecimal(&transfers)
+        }
+        "tree" => {
+            let records = random.below(4);
+            hexadecimal(&random.bytes(16 * records))
+        }
+        "text" => hexadecimal(&small(random)),
+        letter => letter.into(),
+    }
+}
+
+/// A line about as long as a line may be, between the dialects' limits, or far longer.
+fn long(random: &mut Random) -> Vec<u8> {
+    let [shorter, longer] = Dialect::ALL;
+    let length = match random.below(16) {
+        0 => 300_000,
+        1..3 => random.within(shorter.longest_line(), longer.longest_line()),
+        3..7 => random.pick(&about_longest(longer)),
+        _ => random.pick(&about_longest(shorter)),
+    };
+    filled(random.pick(&LONG), length)
+}
+
+/// Lengths about as long as a line may be; after the limit there may be a whole command.
+fn about_longest(dialect: Dialect) -> Vec<usize> {
+    let limit = dialect.longest_line();
+    (limit - 3..=limit + 6).collect()
+}
+
+fn filled((start, filler, end): (&str, &str, &str), length: usize) -> Vec<u8> {
+    let filling = filler.repeat(length - start.len() - end.len());
+    [start, &filling, end].concat().into()
 }
 
 fn noise(random: &mut Random) -> Vec<u8> {

@@ -6,5 +6,6 @@ mod swaps;
 mod transcripts;
 
 pub use books::{damaged, limits, small, valid};
+pub use lines::long_settlement;
 pub use swaps::{small_exchange, Settlement, Swap};
 pub use transcripts::{BookFile, Script, Transcript};

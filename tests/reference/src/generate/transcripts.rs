@@ -1,10 +1,10 @@
 //! Whole transcripts: a book and the command lines for it.
 
 use super::books::{self, damaged, limits, small, valid};
-use super::lines;
+use super::lines::{self, hexadecimal};
 use super::swaps::{Settlement, Swap};
 use crate::book::KINDS;
-use crate::commands::ringswap;
+use crate::commands::Dialect;
 use crate::engine::{Engine, MAX_SUM};
 use crate::random::Random;
 
@@ -36,7 +36,7 @@ impl BookFile {
     }
 }
 
-/// A book and an input for the program.
+/// A book and an input for a program of any dialect.
 pub struct Transcript {
     pub book: BookFile,
     pub input: Vec<u8>,
@@ -52,7 +52,7 @@ impl Transcript {
             _ => random.within(1, 12),
         };
         for _ in 0..steps {
-            script.step(random);
+            random.weighted(STEPS)(&mut script, random);
         }
         let mut input = script.input;
         if random.one_in(4) {
@@ -65,7 +65,7 @@ impl Transcript {
     pub fn every(random: &mut Random) -> Vec<Transcript> {
         let talk = Transcript {
             book: BookFile::Text(small(random)),
-            input: lines::every().join(&b'\n'),
+            input: lines::every(random).join(&b'\n'),
         };
         books::every(random)
             .into_iter()
@@ -77,11 +77,24 @@ impl Transcript {
             .collect()
     }
 
-    /// What the program must print.
-    pub fn expected(&self) -> Vec<u8> {
-        ringswap(self.book.text(), &self.input)
+    /// What the program of a dialect must print.
+    pub fn expected(&self, dialect: Dialect) -> Vec<u8> {
+        dialect.output(self.book.text(), &self.input)
     }
 }
+
+/// Writes one command, or a few that belong together.
+type Step = fn(&mut Script, &mut Random);
+
+/// The steps that a script may take, and how often each of them is taken.
+const STEPS: &[(usize, Step)] = &[
+    (3, Script::simple),
+    (1, Script::extreme),
+    (1, Script::fill_up),
+    (1, Script::unlikely),
+    (1, Script::noise),
+    (9, Script::swap),
+];
 
 /// Command lines being written, beside an engine that has followed them so far.
 pub struct Script {
@@ -123,19 +136,12 @@ impl Script {
         self.input.push(b'\n');
     }
 
-    /// Writes one command, or a few that belong together.
-    fn step(&mut self, random: &mut Random) {
-        match random.below(16) {
-            0..3 => self.simple(random),
-            3 => self.extreme(random),
-            4 => self.fill_up(random),
-            5 => self.line(lines::unlikely(random)),
-            6 => self.settle(&Settlement::noise(random)),
-            _ => match self.some_swap(random) {
-                Some(swap) => self.swap(&swap, random),
-                None => self.line(lines::unlikely(random)),
-            },
-        }
+    fn unlikely(&mut self, random: &mut Random) {
+        self.line(lines::unlikely(random));
+    }
+
+    fn noise(&mut self, random: &mut Random) {
+        self.settle(&Settlement::noise(random));
     }
 
     fn some_swap(&self, random: &mut Random) -> Option<Swap> {
@@ -155,11 +161,7 @@ impl Script {
         let card = random.within(1, cards) as u32;
         let kind = random.within(1, 4) as u32;
         let count = random.pick(&[0, 1, 2, 3, 10, 1_000, 600_000_000]);
-        match random.below(3) {
-            0 => self.issue(card, kind, count),
-            1 => self.redeem(card, kind, count),
-            _ => self.query(card, kind),
-        }
+        self.account([card, kind, count], random);
     }
 
     /// A call whose numbers are at the ends of what they may be, or beyond.
@@ -168,6 +170,11 @@ impl Script {
         let card = random.pick(&[0, 1, cards, cards + 1, 32, 33, 256, 257, u32::MAX]);
         let kind = random.pick(&[0, 1, 16, 17, 32, 256, 257, u32::MAX]);
         let count = random.pick(&[0, 1, MAX_SUM, MAX_SUM + 1, 1 << 31, u32::MAX - 1, u32::MAX]);
+        self.account([card, kind, count], random);
+    }
+
+    /// A call about one holding.
+    fn account(&mut self, [card, kind, count]: [u32; 3], random: &mut Random) {
         match random.below(3) {
             0 => self.issue(card, kind, count),
             1 => self.redeem(card, kind, count),
@@ -199,8 +206,16 @@ impl Script {
         self.redeem(card, kind, held - random.pick(&[0, 1, 5]).min(held));
     }
 
+    /// Settlements around one swap, where the book has any.
+    fn swap(&mut self, random: &mut Random) {
+        match self.some_swap(random) {
+            Some(swap) => self.settle_around(&swap, random),
+            None => self.unlikely(random),
+        }
+    }
+
     /// Settlements around one swap: as it is, short of a token, or damaged.
-    fn swap(&mut self, swap: &Swap, random: &mut Random) {
+    fn settle_around(&mut self, swap: &Swap, random: &mut Random) {
         let settlement = swap.settlement(random);
         match random.below(16) {
             0 | 1 => self.settle_and_query(swap, &settlement),
@@ -270,11 +285,4 @@ fn settle_line(settlement: &Settlement) -> String {
         hexadecimal(&settlement.exchange),
         hexadecimal(&settlement.proof)
     )
-}
-
-fn hexadecimal(bytes: &[u8]) -> String {
-    if bytes.is_empty() {
-        return "-".into();
-    }
-    bytes.iter().map(|byte| format!("{byte:02x}")).collect()
 }
