@@ -15,7 +15,7 @@ module _ (d : Dialect) (line : List ℕ) where
   unfolding admits
   too-long l = rw (lt-leb (length line) (d .longest) l)
 
-  pub by-letter : (f : Bool) → length line ≤ d .longest → f ≡ inScope (getD line 0 0) → (d .every || f) ≡ admits d line
+  pub by-letter : (f : Bool) → length line ≤ d .longest → f ≡ inScope (getD line 0 0) → (d .full || f) ≡ admits d line
   unfolding admits
   by-letter f l e = rw (le-leb (length line) (d .longest) l, e)
 

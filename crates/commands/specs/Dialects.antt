@@ -15,17 +15,17 @@ use Rattle.commands.specs.declared.Dialect.{Dialect}
 abbrev pub inScope : ℕ → Bool
 inScope letter = any (eqb letter) (ascii "IDHS")
 
--- the scope's commands alone, and lines of up to 8,192 bytes without their LF
+-- the scope's commands alone, and no line that is "over 8,192 bytes without its LF"
 abbrev pub ringswap : Dialect
-ringswap = record { longest = lineLimit; every = false }
+ringswap = record { longest = lineLimit; full = false }
 
 -- every command, and lines that a rule text in hexadecimal fits into
 abbrev pub thawcroft : Dialect
-thawcroft = record { longest = 40_960; every = true }
+thawcroft = record { longest = 40_960; full = true }
 
--- a line is not too long, and its letter is that of a command that is answered
+-- a line is not too long and, where the scope's commands alone are answered, has a letter of theirs
 unfoldable pub admits : Dialect → List ℕ → Bool
-admits d line = leb (length line) (d .longest) && (d .every || inScope (getD line 0 0))
+admits d line = leb (length line) (d .longest) && (d .full || inScope (getD line 0 0))
 
 -- the command that a line is, without its LF; one that the dialect does not have is none
 unfoldable pub commandIn : Dialect → List ℕ → Option Call

@@ -12,7 +12,7 @@ pub fn ringswap() -> Dialect
 {
     Dialect {
         longest: 8192,
-        every: false,
+        full: false,
     }
 }
 
@@ -21,7 +21,7 @@ pub fn thawcroft() -> Dialect
 {
     Dialect {
         longest: 40960,
-        every: true,
+        full: true,
     }
 }
 
@@ -44,7 +44,7 @@ fn admits(dialect: Dialect, line: &[u8]) -> bool
     if (dialect.longest as usize) < line.len() {
         return false;
     }
-    dialect.every | in_scope(ascii::byte(line, 0))
+    dialect.full | in_scope(ascii::byte(line, 0))
 }
 
 // What a line commands in a dialect, for any bytes: a command that the dialect does not have is ill-formed.

@@ -16,10 +16,10 @@ pub use replies::put_bad;
 pub use replies::put_book;
 pub use replies::put_reply;
 
-// How many bytes a line may have without its LF, and whether every command is answered, or document 01's alone.
+// How many bytes a line may have without its LF, and whether every command is answered or document 01's alone.
 pub struct Dialect {
     pub longest: u32,
-    pub every: bool,
+    pub full: bool,
 }
 
 // A word's place in a line: where its first byte is, and the place after its last.

@@ -1,8 +1,8 @@
 // A conversation over standard input and output: a rule text from a file, then the input to its end.
 //
-// What is printed of a text and of blocks of input is the crate session's, proved there. Here is the reading and writing, and of what a
-// system call reads or writes no contract can speak: the exported functions have none but that they end. Every answer is written before
-// more input is waited for.
+// What is printed of a text and of blocks of input is the crate session's, proved there; here is the reading and writing. No contract can
+// say what a system call reads or writes, so the exported functions have no `ensures`; that they end is proved. Every answer is written
+// before more input is waited for.
 use commands::Dialect;
 use libc::STDIN_FILENO;
 use libc::STDOUT_FILENO;
@@ -48,7 +48,7 @@ fn read_book(name: &[u8], text: &mut [u8]) -> Text
     read
 }
 
-// For a book that cannot be read.
+// For a book that cannot be read, and for arguments that name none.
 pub fn say_bad() {
     let mut out = [0; 32];
     let count = commands::put_bad(&mut out);
@@ -77,14 +77,15 @@ fn text_buffer() -> [u8; 16385]
 }
 
 // A block that was read, answered and written.
-fn answer(session: Session, line: &mut [u8], block: &[u8], out: &mut [u8]) -> Session {
+fn answer(session: Session, buffer: &mut [u8], block: &[u8], out: &mut [u8]) -> Session {
     let mut next = session;
     let mut at = 0;
     while at < block.len() {
-        let fed = session::feed(next, line, &block[at..], out);
+        let fed = session::feed(next, buffer, &block[at..], out);
         let taken = fed.taken;
         let count = fed.count;
         io::write_all(STDOUT_FILENO, &out[..count]);
+        // A buffer without room: no call would take more.
         if taken == 0 {
             return fed.session;
         }
@@ -95,7 +96,7 @@ fn answer(session: Session, line: &mut [u8], block: &[u8], out: &mut [u8]) -> Se
 }
 
 // The input to its end, then a last line that lacks its LF. The count of reads is what shows that this ends.
-fn converse(session: Session, line: &mut [u8]) {
+fn converse(session: Session, buffer: &mut [u8]) {
     let mut next = session;
     let mut block = block_buffer();
     let mut out = answer_buffer();
@@ -106,16 +107,16 @@ fn converse(session: Session, line: &mut [u8]) {
         if count == 0 {
             break;
         }
-        next = answer(next, line, &block[..count], &mut out);
+        next = answer(next, buffer, &block[..count], &mut out);
         reads -= 1;
     }
     let mut last = [0; 32];
-    let count = session::finish(next, line, &mut last);
+    let count = session::finish(next, buffer, &mut last);
     io::write_all(STDOUT_FILENO, &last[..count]);
 }
 
-// The file of this name opened, then the input answered. The buffer for a line has one byte more than the dialect's longest line.
-pub fn run(dialect: Dialect, name: &[u8], line: &mut [u8]) {
+// The file of this name opened, then the input answered. In a buffer that is no longer than the dialect's longest line, no line is answered.
+pub fn run(dialect: Dialect, name: &[u8], buffer: &mut [u8]) {
     let mut text = text_buffer();
     let read = read_book(name, &mut text);
     let Text::Read(size) = read else {
@@ -128,6 +129,6 @@ pub fn run(dialect: Dialect, name: &[u8], line: &mut [u8]) {
     io::write_all(STDOUT_FILENO, &out[..count]);
     if begun.opened {
         let session = begun.session;
-        converse(session, line);
+        converse(session, buffer);
     }
 }

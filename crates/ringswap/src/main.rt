@@ -11,6 +11,6 @@ fn line_buffer() -> [u8; 8193]
 }
 
 fn main() {
-    let mut line = line_buffer();
-    console::run(commands::ringswap(), b"book.txt", &mut line);
+    let mut buffer = line_buffer();
+    console::run(commands::ringswap(), b"book.txt", &mut buffer);
 }

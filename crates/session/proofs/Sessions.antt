@@ -50,7 +50,7 @@ module _ (d : Dialect) (text out out′ : List ℕ) (e : Engine) (n : ℕ) where
     opened = rw (← o .answers);
     dialect = refl;
     book = o .book;
-    progress = λ line. rw none-kept (ap betweenLines (o .state));
+    progress = λ buffer. rw none-kept (ap betweenLines (o .state));
   }
 
   pub begins-refused : (number line : ℕ) → Opens text (Refused number line) e → Printed answerSize (printReply (refused number line)) out out′ n
@@ -60,50 +60,52 @@ module _ (d : Dialect) (text out out′ : List ℕ) (e : Engine) (n : ℕ) where
     opened = rw (← o .answers);
     dialect = refl;
     book = o .book;
-    progress = λ line. rw none-kept (ap betweenLines (o .state));
+    progress = λ buffer. rw none-kept (ap betweenLines (o .state));
   }
 
 -- ---- feeding
 
-module _ (s : Session) (line block out : List ℕ) where
+module _ (s : Session) (buffer block out : List ℕ) where
   abbrev d : Dialect
   d = s .dialect
 
-  -- the longest line has no room
-  pub feeds-nothing : length line < lineRoom d → Feeds s line block out line out (record { session = s; taken = 0; count = 0 })
+  -- a line lacks its room
+  pub feeds-nothing : length buffer < lineRoom d → Feeds s buffer block out buffer out (record { session = s; taken = 0; count = 0 })
   unfolding blockSays afterBlock
   feeds-nothing l = record {
-    taken = rw (lt-leb (lineRoom d) (length line) l);
+    taken = rw (lt-leb (lineRoom d) (length buffer) l);
     said = record { put = rw (take-nil (length out)); counted = refl; fits = omega arith };
     progress = refl;
     dialect = refl;
     book = refl;
     beyond = refl;
+    long = refl;
   }
 
-  module _ (h line′ out′ : List ℕ) (taken size kept count : ℕ) where
-    pub feeds : lineRoom d ≤ length line → taken ≡ min (length block) (length out / answerSize) → size ≡ min (s .size) (lineRoom d)
-        → BlockSaid d (s .engine .cards) (s .engine .rules) (s .engine .holdings) line size (take taken block) out out′ count
-        → BlockLeft d (s .engine .cards) (s .engine .rules) (s .engine .holdings) line size (take taken block) h line′ kept
-        → Feeds s line block out line′ out′ (record { session = record { dialect = d; engine = withHoldings (s .engine) h; size = kept }; taken = taken; count = count })
+  module _ (h buffer′ out′ : List ℕ) (taken size kept count : ℕ) where
+    pub feeds : lineRoom d ≤ length buffer → taken ≡ min (length block) (length out / answerSize) → size ≡ min (s .size) (lineRoom d)
+        → BlockSaid d (s .engine .cards) (s .engine .rules) (s .engine .holdings) buffer size (take taken block) out out′ count
+        → BlockLeft d (s .engine .cards) (s .engine .rules) (s .engine .holdings) buffer size (take taken block) h buffer′ kept
+        → Feeds s buffer block out buffer′ out′ (record { session = record { dialect = d; engine = withHoldings (s .engine) h; size = kept }; taken = taken; count = count })
     feeds l t z w v =
         let m : min kept (lineRoom d) ≡ kept = omega (arith, v .within) in
         record {
-          taken = rw (le-leb (lineRoom d) (length line) l) t;
+          taken = rw (le-leb (lineRoom d) (length buffer) l) t;
           said = record {
-            put = (rw z at (w .put)) ∙ sets-over (blockSays d (bookIn (s .engine)) (progressOf s line) (take taken block)) out;
+            put = (rw z at (w .put)) ∙ sets-over (blockSays d (bookIn (s .engine)) (progressOf s buffer) (take taken block)) out;
             counted = rw z at (w .counted);
             fits = omega (arith, rw z at (w .counted), w .few, length-take taken block);
           };
           progress = rw m (sym (rw z at (v .progress)));
           dialect = refl;
           book = refl;
-          beyond = rw (le-leb (lineRoom d) (length line) l) (v .beyond);
+          beyond = rw (le-leb (lineRoom d) (length buffer) l) (v .beyond);
+          long = v .long;
         }
 
 -- no more is taken than there is
-pub taken-few : {s : Session} {line block out line′ out′ : List ℕ} {r : Fed} → Feeds s line block out line′ out′ r → r .taken ≤ length block
-taken-few {s} {line} {block} {out} f = rw (f .taken) (few (leb (lineRoom (s .dialect)) (length line)))
+pub taken-few : {s : Session} {buffer block out buffer′ out′ : List ℕ} {r : Fed} → Feeds s buffer block out buffer′ out′ r → r .taken ≤ length block
+taken-few {s} {buffer} {block} {out} f = rw (f .taken) (few (leb (lineRoom (s .dialect)) (length buffer)))
   where
     few : (t : Bool) → cond t (min (length block) (length out / answerSize)) 0 ≤ length block
     few true = omega arith
@@ -111,27 +113,27 @@ taken-few {s} {line} {block} {out} f = rw (f .taken) (few (leb (lineRoom (s .dia
 
 -- ---- the end
 
-module _ (s : Session) (line out : List ℕ) (size : ℕ) (z : size ≡ min (min (s .size) (lineRoom (s .dialect))) (length line)) where
-  abbrev kept : List ℕ
-  kept = take (min (s .size) (lineRoom (s .dialect))) line
+module _ (s : Session) (buffer out : List ℕ) (size : ℕ) (z : size ≡ min (min (s .size) (lineRoom (s .dialect))) (length buffer)) where
+  abbrev keptLine : List ℕ
+  keptLine = take (min (s .size) (lineRoom (s .dialect))) buffer
 
-  line-kept : take size line ≡ kept
+  line-kept : take size buffer ≡ keptLine
   line-kept =
-      let m : size ≡ min (length line) (min (s .size) (lineRoom (s .dialect))) = omega arith in
-      ap (λ (k : ℕ). take k line) m ∙ take-least line (min (s .size) (lineRoom (s .dialect)))
+      let m : size ≡ min (length buffer) (min (s .size) (lineRoom (s .dialect))) = omega arith in
+      ap (λ (k : ℕ). take k buffer) m ∙ take-least buffer (min (s .size) (lineRoom (s .dialect)))
 
-  pub ends-nothing : size ≡ 0 → Printed answerSize (endSays (s .dialect) (bookIn (s .engine)) (progressOf s line)) out out 0
+  pub ends-nothing : size ≡ 0 → Printed answerSize (endSays (s .dialect) (bookIn (s .engine)) (progressOf s buffer)) out out 0
   unfolding answersTo
   ends-nothing e =
-      let q : kept ≡ [] = sym line-kept ∙ ap (λ (k : ℕ). take k line) e in
+      let q : keptLine ≡ [] = sym line-kept ∙ ap (λ (k : ℕ). take k buffer) e in
       rw q (record { put = rw (take-nil (length out)); counted = refl; fits = omega arith })
 
   pub ends-line : (size ≡ 0 → ⊥) → (n : ℕ) (h out′ : List ℕ)
-      → LineAnswered (s .dialect) (s .engine .cards) (s .engine .rules) (s .engine .holdings) (take size line) out n h out′
-      → Printed answerSize (endSays (s .dialect) (bookIn (s .engine)) (progressOf s line)) out out′ n
+      → LineAnswered (s .dialect) (s .engine .cards) (s .engine .rules) (s .engine .holdings) (take size buffer) out n h out′
+      → Printed answerSize (endSays (s .dialect) (bookIn (s .engine)) (progressOf s buffer)) out out′ n
   ends-line f n h out′ a =
-      let some : 0 < length (take size line) = ends-some f in
-      rw (← line-kept, last-says (s .dialect) (bookIn (s .engine)) (stateIn (s .engine)) (take size line) some) (a .said)
+      let some : 0 < length (take size buffer) = ends-some f in
+      rw (← line-kept, last-says (s .dialect) (bookIn (s .engine)) (stateIn (s .engine)) (take size buffer) some) (a .said)
     where
-      ends-some : (size ≡ 0 → ⊥) → 0 < length (take size line)
-      ends-some f = omega (arith, f, length-take size line)
+      ends-some : (size ≡ 0 → ⊥) → 0 < length (take size buffer)
+      ends-some f = omega (arith, f, length-take size buffer)

@@ -137,13 +137,13 @@ module _ (d : Dialect) (cards rules h₀ block out₀ : List ℕ) (from : ℕ) w
 
 -- ---- a block after what is kept of a line
 
-module _ (d : Dialect) (cards rules h line : List ℕ) (size : ℕ) (block out : List ℕ) (end : ℕ) (ends : end ≡ 0 + until (code "\n") (drop 0 block))
+module _ (d : Dialect) (cards rules h buffer : List ℕ) (size : ℕ) (block out : List ℕ) (end : ℕ) (ends : end ≡ 0 + until (code "\n") (drop 0 block))
     (few : size ≤ lineRoom d) where
   abbrev b : Book
   b = bookOf cards rules
 
-  short : length (take size line) ≤ lineRoom d
-  short = omega (arith, length-take size line)
+  short : length (take size buffer) ≤ lineRoom d
+  short = omega (arith, length-take size buffer)
 
   from-start : end - 0 ≡ end
   from-start = omega arith
@@ -159,26 +159,27 @@ module _ (d : Dialect) (cards rules h line : List ℕ) (size : ℕ) (block out :
     plain : T (hasNoLF block)
     plain = rw all at first-plain
 
-    pub unended-said : BlockSaid d cards rules h line size block out out 0
-    unended-said = let e = part-says d b (stateFrom h) (take size line) block short plain in record { put = rw e; counted = rw e; few = omega arith }
+    pub unended-said : BlockSaid d cards rules h buffer size block out out 0
+    unended-said = let e = part-says d b (stateFrom h) (take size buffer) block short plain in record { put = rw e; counted = rw e; few = omega arith }
 
-    pub unended-left : (line′ : List ℕ) (kept : ℕ) → PartKept (lineRoom d) line size (take end block) line′ kept
-        → BlockLeft d cards rules h line size block h line′ kept
-    unended-left line′ kept k = record {
-      progress = part-after d b (stateFrom h) (take size line) block short plain ∙ rw (k .bytes, all);
+    pub unended-left : (buffer′ : List ℕ) (kept : ℕ) → PartKept (lineRoom d) buffer size (take end block) buffer′ kept
+        → BlockLeft d cards rules h buffer size block h buffer′ kept
+    unended-left buffer′ kept k = record {
+      progress = part-after d b (stateFrom h) (take size buffer) block short plain ∙ rw (k .bytes, all);
       within = k .within;
       beyond = k .beyond;
+      long = k .long;
     }
 
   -- its first LF ends the line, then come the lines of the rest, and what is left
-  module _ (l : end < length block) (line₁ : List ℕ) (kept : ℕ) (k : PartKept (lineRoom d) line size (take end block) line₁ kept)
-      (h₁ out₁ : List ℕ) (n₁ : ℕ) (a : LineSaid d cards rules h (take kept line₁) out 0 h₁ out₁ n₁)
+  module _ (l : end < length block) (buffer₁ : List ℕ) (kept : ℕ) (k : PartKept (lineRoom d) buffer size (take end block) buffer₁ kept)
+      (h₁ out₁ : List ℕ) (n₁ : ℕ) (a : LineSaid d cards rules h (take kept buffer₁) out 0 h₁ out₁ n₁)
       (h₂ out₂ : List ℕ) (rest n₂ : ℕ) (s : LinesSaid d cards rules h₁ (drop (end + 1) block) out₁ n₁ h₂ out₂ rest n₂) where
     abbrev tail : List ℕ
     tail = drop (end + 1) block
 
     abbrev firstSays : List ℕ
-    firstSays = answerTo b (stateFrom h) (commandIn d (take kept line₁))
+    firstSays = answerTo b (stateFrom h) (commandIn d (take kept buffer₁))
 
     abbrev tailSays : List ℕ
     tailSays = blockSays d b (betweenLines (stateFrom h₁)) (take rest tail)
@@ -186,16 +187,16 @@ module _ (d : Dialect) (cards rules h line : List ℕ) (size : ℕ) (block out :
     whole : block ≡ (take end block ++ ascii "\n") ++ tail
     whole = sym (take-append-drop (end + 1) block) ∙ ap (λ (f : List ℕ). f ++ tail) (rw from-start at (line-there block 0 end ends l))
 
-    first-says : blockSays d b (progressFrom h line size) (take end block ++ ascii "\n") ≡ firstSays
-    first-says = rw (k .bytes) (line-says d b (stateFrom h) (take size line) (take end block) short first-plain)
+    first-says : blockSays d b (progressFrom h buffer size) (take end block ++ ascii "\n") ≡ firstSays
+    first-says = rw (k .bytes) (line-says d b (stateFrom h) (take size buffer) (take end block) short first-plain)
 
-    first-after : afterBlock d b (progressFrom h line size) (take end block ++ ascii "\n") ≡ betweenLines (stateFrom h₁)
-    first-after = line-after d b (stateFrom h) (take size line) (take end block) short first-plain ∙ rw (← k .bytes, a .state)
+    first-after : afterBlock d b (progressFrom h buffer size) (take end block ++ ascii "\n") ≡ betweenLines (stateFrom h₁)
+    first-after = line-after d b (stateFrom h) (take size buffer) (take end block) short first-plain ∙ rw (← k .bytes, a .state)
 
-    block-says : blockSays d b (progressFrom h line size) block ≡ firstSays ++ tailSays
+    block-says : blockSays d b (progressFrom h buffer size) block ≡ firstSays ++ tailSays
     block-says =
-        ap (blockSays d b (progressFrom h line size)) whole
-        ∙ says-both d b (progressFrom h line size) (take end block ++ ascii "\n") tail
+        ap (blockSays d b (progressFrom h buffer size)) whole
+        ∙ says-both d b (progressFrom h buffer size) (take end block ++ ascii "\n") tail
         ∙ rw (first-says, first-after, tail-says)
       where
         tail-says : blockSays d b (betweenLines (stateFrom h₁)) tail ≡ tailSays
@@ -204,10 +205,10 @@ module _ (d : Dialect) (cards rules h line : List ℕ) (size : ℕ) (block out :
             ∙ says-both d b (betweenLines (stateFrom h₁)) (take rest tail) (drop rest tail)
             ∙ rw (s .left, part-says d b (stateFrom h₂) [] (drop rest tail) (omega arith) (s .plain)) (append-nil tailSays)
 
-    block-after : afterBlock d b (progressFrom h line size) block ≡ record { state = stateFrom h₂; line = take (lineRoom d) (drop rest tail) }
+    block-after : afterBlock d b (progressFrom h buffer size) block ≡ record { state = stateFrom h₂; line = take (lineRoom d) (drop rest tail) }
     block-after =
-        ap (afterBlock d b (progressFrom h line size)) whole
-        ∙ after-both d b (progressFrom h line size) (take end block ++ ascii "\n") tail
+        ap (afterBlock d b (progressFrom h buffer size)) whole
+        ∙ after-both d b (progressFrom h buffer size) (take end block ++ ascii "\n") tail
         ∙ rw first-after tail-after
       where
         tail-after : afterBlock d b (betweenLines (stateFrom h₁)) tail ≡ record { state = stateFrom h₂; line = take (lineRoom d) (drop rest tail) }
@@ -216,19 +217,20 @@ module _ (d : Dialect) (cards rules h line : List ℕ) (size : ℕ) (block out :
             ∙ after-both d b (betweenLines (stateFrom h₁)) (take rest tail) (drop rest tail)
             ∙ rw (s .left) (part-after d b (stateFrom h₂) [] (drop rest tail) (omega arith) (s .plain))
 
-    pub ended-said : BlockSaid d cards rules h line size block out out₂ n₂
+    pub ended-said : BlockSaid d cards rules h buffer size block out out₂ n₂
     ended-said = record {
       put = rw (block-says, sets-append out 0 firstSays tailSays, ← a .put, ← a .next) (s .put);
       counted = omega (arith, ap length block-says, length-append firstSays tailSays, a .next, s .next);
       few = omega (arith, a .few, s .few, s .near, length-drop (end + 1) block);
     }
 
-    pub ended-left : (line₂ : List ℕ) (left : ℕ) → PartKept (lineRoom d) line₁ 0 (take (length block - (end + 1 + rest)) (drop (end + 1 + rest) block)) line₂ left
-        → BlockLeft d cards rules h line size block h₂ line₂ left
-    ended-left line₂ left m =
+    pub ended-left : (buffer₂ : List ℕ) (left : ℕ) → PartKept (lineRoom d) buffer₁ 0 (take (length block - (end + 1 + rest)) (drop (end + 1 + rest) block)) buffer₂ left
+        → BlockLeft d cards rules h buffer size block h₂ buffer₂ left
+    ended-left buffer₂ left m =
         let place : drop rest tail ≡ drop (end + 1 + rest) block = drop-drop rest (end + 1) block in
         record {
           progress = block-after ∙ rw (m .bytes, to-end block (end + 1 + rest), place);
           within = m .within;
           beyond = m .beyond ∙ k .beyond;
+          long = m .long ∙ k .long;
         }

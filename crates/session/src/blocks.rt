@@ -10,7 +10,7 @@ ghost use lib.ListN.{length};
 ghost use Rattle.session.specs.Blocks.{lineRoom};
 ghost use Rattle.session.specs.inner.Parts.{LineSaid, LinesSaid, BlockSaid, BlockLeft};
 
-// Where the part of a block begins that has no LF, and the place after the answers to its lines.
+// Where the part of a block that has no LF begins, and the place after the answers to its lines.
 struct Lines {
     rest: usize,
     count: usize,
@@ -40,7 +40,7 @@ fn answer_line<'a>(
     buffers::put(&reply, n, out, at)
 }
 
-// The lines that end in a block which begins with a line. They are read where they are: only what has no LF has to be kept.
+// The lines that begin and end in a block, read where they are: only what has no LF has to be kept.
 fn answer_lines<'a>(
     dialect: Dialect,
     cards: &'a CardTable,
@@ -51,7 +51,8 @@ fn answer_lines<'a>(
     from: usize,
 ) -> Lines
     requires { ⌜ from + length (now block) * 32 ≤ length (now out) ⌝ }
-    ensures { λ r. ⌜ LinesSaid dialect (now (cards .entry)) (now (rules .entry)) (now (holdings .entry)) (now (block .entry)) (now (out .entry)) from (now (holdings .exit)) (now (out .exit)) (r .rest) (r .count) ⌝ }
+    ensures { λ r. ⌜ LinesSaid dialect (now (cards .entry)) (now (rules .entry)) (now (holdings .entry)) (now (block .entry)) (now (out .entry)) from
+        (now (holdings .exit)) (now (out .exit)) (r .rest) (r .count) ⌝ }
 {
     let mut at = 0;
     let mut count = from;
@@ -64,24 +65,26 @@ fn answer_lines<'a>(
     Lines { rest: at, count }
 }
 
-// Each byte of the block prints 32 bytes at most.
+// The line that was begun before the block, then the lines in it; what has no LF is kept. Each byte of the block prints 32 bytes at most.
 pub(crate) fn answer_block<'a>(
     dialect: Dialect,
     cards: &'a CardTable,
     rules: &'a RuleTable,
     holdings: &mut [u32; 512],
-    line: &mut [u8],
+    buffer: &mut [u8],
     size: usize,
     block: &[u8],
     out: &mut [u8],
 ) -> Walked
-    requires { ⌜ (size ≤ lineRoom dialect) × (lineRoom dialect ≤ length (now line)) × (length (now block) * 32 ≤ length (now out)) ⌝ }
-    ensures { λ r. ⌜ BlockSaid dialect (now (cards .entry)) (now (rules .entry)) (now (holdings .entry)) (now (line .entry)) size (now (block .entry)) (now (out .entry)) (now (out .exit)) (r .count) ⌝ }
-    ensures { λ r. ⌜ BlockLeft dialect (now (cards .entry)) (now (rules .entry)) (now (holdings .entry)) (now (line .entry)) size (now (block .entry)) (now (holdings .exit)) (now (line .exit)) (r .size) ⌝ }
+    requires { ⌜ (size ≤ lineRoom dialect) × (lineRoom dialect ≤ length (now buffer)) × (length (now block) * 32 ≤ length (now out)) ⌝ }
+    ensures { λ r. ⌜ BlockSaid dialect (now (cards .entry)) (now (rules .entry)) (now (holdings .entry)) (now (buffer .entry)) size (now (block .entry))
+        (now (out .entry)) (now (out .exit)) (r .count) ⌝ }
+    ensures { λ r. ⌜ BlockLeft dialect (now (cards .entry)) (now (rules .entry)) (now (holdings .entry)) (now (buffer .entry)) size (now (block .entry))
+        (now (holdings .exit)) (now (buffer .exit)) (r .size) ⌝ }
 {
     let room = line_room(dialect);
     let end = ascii::find(block, 0, b'\n');
-    let kept = buffers::keep(line, room, size, &block[..end]);
+    let kept = buffers::keep(buffer, room, size, &block[..end]);
     if block.len() <= end {
         return Walked {
             size: kept,
@@ -89,10 +92,10 @@ pub(crate) fn answer_block<'a>(
         };
     }
     let next = end + 1;
-    let first = answer_line(dialect, cards, rules, holdings, &line[..kept], out, 0);
+    let first = answer_line(dialect, cards, rules, holdings, &buffer[..kept], out, 0);
     let lines = answer_lines(dialect, cards, rules, holdings, &block[next..], out, first);
     let rest = next + lines.rest;
-    let left = buffers::keep(line, room, 0, &block[rest..]);
+    let left = buffers::keep(buffer, room, 0, &block[rest..]);
     Walked {
         size: left,
         count: lines.count,

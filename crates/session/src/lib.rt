@@ -2,7 +2,7 @@
 //
 // `begin` answers for the text, `feed` for as much of a block as there is room to answer, `finish` for a last line without LF. However an
 // input is cut into blocks, what is printed is the same (specs/Theorems.antt); reading and writing are the caller's. So is the buffer for a
-// line that has no LF yet: one byte more than the dialect's longest, lent to each call as the call before left it.
+// line that has no LF yet: one byte more than the dialect's longest, lent to `feed` and `finish` as the call before left it.
 mod blocks;
 mod buffers;
 mod replies;
@@ -20,7 +20,7 @@ ghost use Rattle.session.specs.Contracts.{Begins, Feeds, Finishes};
 // No answer is longer.
 const ANSWER_SIZE: usize = 32;
 
-// The engine, and how much is kept of the line that has no LF yet.
+// The dialect, the engine, and how much is kept of the line that has no LF yet.
 pub struct Session {
     pub dialect: Dialect,
     pub engine: Engine,
@@ -82,13 +82,13 @@ pub fn begin(dialect: Dialect, text: &[u8], out: &mut [u8; 32]) -> Begun
     }
 }
 
-// As much of a block as there is room to answer, 32 bytes for each of its bytes; nothing where the longest line has no room.
-pub fn feed(session: Session, line: &mut [u8], block: &[u8], out: &mut [u8]) -> Fed
-    ensures { λ r. ⌜ Feeds session (now (line .entry)) (now (block .entry)) (now (out .entry)) (now (line .exit)) (now (out .exit)) r ⌝ }
+// As much of a block as there is room to answer, 32 bytes for each of its bytes; nothing where the buffer for a line lacks its room.
+pub fn feed(session: Session, buffer: &mut [u8], block: &[u8], out: &mut [u8]) -> Fed
+    ensures { λ r. ⌜ Feeds session (now (buffer .entry)) (now (block .entry)) (now (out .entry)) (now (buffer .exit)) (now (out .exit)) r ⌝ }
 {
     let dialect = session.dialect;
     let room = line_room(dialect);
-    if line.len() < room {
+    if buffer.len() < room {
         return Fed {
             session,
             taken: 0,
@@ -104,7 +104,7 @@ pub fn feed(session: Session, line: &mut [u8], block: &[u8], out: &mut [u8]) -> 
         &engine.cards,
         &engine.rules,
         &mut holdings,
-        line,
+        buffer,
         size,
         &block[..taken],
         out,
@@ -123,12 +123,12 @@ pub fn feed(session: Session, line: &mut [u8], block: &[u8], out: &mut [u8]) -> 
 }
 
 // The answer to a last line that lacks its LF, if there is one.
-pub fn finish(session: Session, line: &[u8], out: &mut [u8; 32]) -> usize
-    ensures { λ r. ⌜ Finishes session (now (line .entry)) (now (out .entry)) (now (out .exit)) r ⌝ }
+pub fn finish(session: Session, buffer: &[u8], out: &mut [u8; 32]) -> usize
+    ensures { λ r. ⌜ Finishes session (now (buffer .entry)) (now (out .entry)) (now (out .exit)) r ⌝ }
 {
     let dialect = session.dialect;
     let kept = limits::least(session.size, line_room(dialect));
-    let size = limits::least(kept, line.len());
+    let size = limits::least(kept, buffer.len());
     if size == 0 {
         return 0;
     }
@@ -139,7 +139,7 @@ pub fn finish(session: Session, line: &[u8], out: &mut [u8; 32]) -> usize
         &engine.cards,
         &engine.rules,
         &mut holdings,
-        &line[..size],
+        &buffer[..size],
         out,
     )
 }

@@ -11,30 +11,23 @@ fn line_buffer() -> [u8; 40961]
     [0; 40961]
 }
 
-fn converse(name: &[u8]) {
-    let mut line = line_buffer();
-    console::run(commands::thawcroft(), name, &mut line);
+fn run(name: &[u8]) {
+    let mut buffer = line_buffer();
+    console::run(commands::thawcroft(), name, &mut buffer);
 }
 
-// No path is longer.
-fn name_buffer() -> [u8; 4096]
-    ensures { λ r. ⌜ length r ≡ 4096 ⌝ }
-{
-    [0; 4096]
-}
-
-// An argument that is empty, or longer than a path, names no file.
-fn converse_named() {
-    let mut name = name_buffer();
+// An argument that is empty, or longer than a path may be, names no file.
+fn run_named() {
+    let mut name = io::buffer();
     let size = os::arg(1, &mut name);
-    converse(&name[..size]);
+    run(&name[..size]);
 }
 
 fn main() {
     let count = os::arg_count();
     match count {
-        0..=1 => converse(b"book.txt"),
-        2 => converse_named(),
+        0..=1 => run(b"book.txt"),
+        2 => run_named(),
         _ => console::say_bad(),
     }
 }

@@ -36,7 +36,7 @@ impl Folder {
 
 impl Drop for Folder {
     fn drop(&mut self) {
-        // A folder that stays behind harms nobody, and there is nobody to tell.
+        // A folder that is left harms nobody, and there is nobody to tell.
         let _ = fs::remove_dir_all(&self.0);
     }
 }
@@ -95,8 +95,7 @@ impl Program {
             // Ending the program, in time or not, closes its pipes and so ends both threads.
             match received {
                 Ok(bytes) => match process.end()? {
-                    // No code means that it was killed; which code goes with a refused book is open.
-                    status if status.code().is_none() => Err(io::Error::other(status.to_string())),
+                    status if !status.success() => Err(io::Error::other(status.to_string())),
                     _ => bytes,
                 },
                 Err(_) => {

@@ -10,10 +10,10 @@ use Rattle.console.proofs.answer.Statement.{statement}
 use Rattle.console.proofs.answer.Tie as tie
 
 abbrev Inv-loop : tie.InvT-loop
-Inv-loop line₀ block out₀ next₀ at₀ line out next at = (at ≤ length block) × (length out ≡ length out₀) × (length line ≡ length line₀)
+Inv-loop buffer₀ block out₀ next₀ at₀ buffer out next at = (at ≤ length block) × (length out ≡ length out₀) × (length buffer ≡ length buffer₀)
 
 abbrev μ-loop : tie.MeasureT-loop
-μ-loop line₀ block out₀ next₀ at₀ line out next at = length block - at
+μ-loop buffer₀ block out₀ next₀ at₀ buffer out next at = length block - at
 
 slice-aggregate-write-all : tie.Need-slice-aggregate-write-all Inv-loop μ-loop
 slice-aggregate-write-all c = printed-count (c .before .before .before .before .before .feed .ensures .said) refl

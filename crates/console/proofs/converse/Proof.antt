@@ -7,10 +7,10 @@ use Rattle.console.proofs.converse.Statement.{statement}
 use Rattle.console.proofs.converse.Tie as tie
 
 abbrev Inv-loop : tie.InvT-loop
-Inv-loop line₀ next₀ block₀ out₀ reads₀ line next block out reads = (length line ≡ length line₀) × (16384 ≡ length block) × (524288 ≡ length out)
+Inv-loop buffer₀ next₀ block₀ out₀ reads₀ buffer next block out reads = (length buffer ≡ length buffer₀) × (16384 ≡ length block) × (524288 ≡ length out)
 
 abbrev μ-loop : tie.MeasureT-loop
-μ-loop line₀ next₀ block₀ out₀ reads₀ line next block out reads = reads
+μ-loop buffer₀ next₀ block₀ out₀ reads₀ buffer next block out reads = reads
 
 array-share-prefix-last : tie.Need-array-share-prefix-last Inv-loop μ-loop
 array-share-prefix-last c = printed-within (c .finish .ensures) (search needs)

@@ -17,12 +17,12 @@ use Rattle.session.specs.Blocks.{Progress, betweenLines, lineRoom, block
 
 -- ---- a line of which the first bytes of a buffer are kept
 
--- so many bytes of line′ are these and the part, as far as there is room
-pub record PartKept (room : ℕ) (line : List ℕ) (size : ℕ) (part line′ : List ℕ) (size′ : ℕ) : Type 0 where
-  pub bytes : take size′ line′ ≡ take room (take size line ++ part)
+-- so many bytes of buffer′ are these and the part, as far as there is room
+pub record PartKept (room : ℕ) (buffer : List ℕ) (size : ℕ) (part buffer′ : List ℕ) (size′ : ℕ) : Type 0 where
+  pub bytes : take size′ buffer′ ≡ take room (take size buffer ++ part)
   pub within : size′ ≤ room
-  pub long : length line′ ≡ length line
-  pub beyond : drop room line′ ≡ drop room line
+  pub beyond : drop room buffer′ ≡ drop room buffer
+  pub long : length buffer′ ≡ length buffer
 
 -- ---- a line over the tables and the holdings h
 
@@ -52,15 +52,16 @@ pub record LinesSaid (d : Dialect) (cards rules h block out : List ℕ) (at : �
 
 -- these two, as the definitions see them
 abbrev pub progressFrom : List ℕ → List ℕ → ℕ → Progress
-progressFrom h line size = record { state = stateFrom h; line = take size line }
+progressFrom h buffer size = record { state = stateFrom h; line = take size buffer }
 
 -- the block's answers are put from the start on
-pub record BlockSaid (d : Dialect) (cards rules h line : List ℕ) (size : ℕ) (block out out′ : List ℕ) (count : ℕ) : Type 0 where
-  pub put : out′ ≡ sets out 0 (blockSays d (bookOf cards rules) (progressFrom h line size) block)
-  pub counted : count ≡ length (blockSays d (bookOf cards rules) (progressFrom h line size) block)
+pub record BlockSaid (d : Dialect) (cards rules h buffer : List ℕ) (size : ℕ) (block out out′ : List ℕ) (count : ℕ) : Type 0 where
+  pub put : out′ ≡ sets out 0 (blockSays d (bookOf cards rules) (progressFrom h buffer size) block)
+  pub counted : count ≡ length (blockSays d (bookOf cards rules) (progressFrom h buffer size) block)
   pub few : count ≤ length block * answerSize
 
-pub record BlockLeft (d : Dialect) (cards rules h line : List ℕ) (size : ℕ) (block h′ line′ : List ℕ) (size′ : ℕ) : Type 0 where
-  pub progress : afterBlock d (bookOf cards rules) (progressFrom h line size) block ≡ progressFrom h′ line′ size′
+pub record BlockLeft (d : Dialect) (cards rules h buffer : List ℕ) (size : ℕ) (block h′ buffer′ : List ℕ) (size′ : ℕ) : Type 0 where
+  pub progress : afterBlock d (bookOf cards rules) (progressFrom h buffer size) block ≡ progressFrom h′ buffer′ size′
   pub within : size′ ≤ lineRoom d
-  pub beyond : drop (lineRoom d) line′ ≡ drop (lineRoom d) line
+  pub beyond : drop (lineRoom d) buffer′ ≡ drop (lineRoom d) buffer
+  pub long : length buffer′ ≡ length buffer

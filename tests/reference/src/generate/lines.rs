@@ -118,7 +118,7 @@ const EXTREME: [&str; 16] = [
     "S - 000000000000000000000000",
 ];
 
-/// The commands that 01 does not have; `word` makes each of their words.
+/// Commands of forms that 01 does not have; `word` makes each of their words.
 const FOREIGN: [&str; 7] = [
     "F exchange",
     "A card kind count",
@@ -130,8 +130,8 @@ const FOREIGN: [&str; 7] = [
 ];
 
 /// Beginnings of long lines, what fills them up, and their ends. Those of hexadecimal words are
-/// right but for their length, if an even number of digits fills them. What ends as a command does
-/// is none.
+/// right but for their length, if an even number of digits fills them. The last ends as a command
+/// does, and is none.
 const LONG: [(&str, &str, &str); 11] = [
     ("S - ", "0", ""),
     ("S 010102 ", "0", ""),
