@@ -16,6 +16,9 @@ pub use replies::put_bad;
 pub use replies::put_book;
 pub use replies::put_reply;
 
+// No answer is longer.
+pub const ANSWER_SIZE: usize = 32;
+
 // How many bytes a line may have without its LF, and whether every command is answered or document 01's alone.
 pub struct Dialect {
     pub longest: u32,

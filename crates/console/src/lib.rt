@@ -3,6 +3,7 @@
 // What is printed of a text and of blocks of input is the crate session's, proved there; here is the reading and writing. No contract can
 // say what a system call reads or writes, so the exported functions have no `ensures`; that they end is proved. Every answer is written
 // before more input is waited for.
+use commands::ANSWER_SIZE;
 use commands::Dialect;
 use libc::STDIN_FILENO;
 use libc::STDOUT_FILENO;
@@ -50,7 +51,7 @@ fn read_book(name: &[u8], text: &mut [u8]) -> Text
 
 // For a book that cannot be read, and for arguments that name none.
 pub fn say_bad() {
-    let mut out = [0; 32];
+    let mut out = [0; ANSWER_SIZE];
     let count = commands::put_bad(&mut out);
     io::write_all(STDOUT_FILENO, &out[..count]);
 }
@@ -110,7 +111,7 @@ fn converse(session: Session, buffer: &mut [u8]) {
         next = answer(next, buffer, &block[..count], &mut out);
         reads -= 1;
     }
-    let mut last = [0; 32];
+    let mut last = [0; ANSWER_SIZE];
     let count = session::finish(next, buffer, &mut last);
     io::write_all(STDOUT_FILENO, &last[..count]);
 }
@@ -123,7 +124,7 @@ pub fn run(dialect: Dialect, name: &[u8], buffer: &mut [u8]) {
         say_bad();
         return;
     };
-    let mut out = [0; 32];
+    let mut out = [0; ANSWER_SIZE];
     let begun = session::begin(dialect, &text[..size], &mut out);
     let count = begun.count;
     io::write_all(STDOUT_FILENO, &out[..count]);

@@ -2,11 +2,13 @@
 use crate::buffers;
 use crate::line_room;
 use crate::replies;
+use commands::ANSWER_SIZE;
 use commands::Dialect;
 use rulebook::layout::CardTable;
 use rulebook::layout::RuleTable;
 ghost use Prim.Native.Nat.{_+_, _*_, _≤_};
 ghost use lib.ListN.{length};
+ghost use Rattle.commands.specs.Grammar.{answerSize};
 ghost use Rattle.session.specs.Blocks.{lineRoom};
 ghost use Rattle.session.specs.inner.Parts.{LineSaid, LinesSaid, BlockSaid, BlockLeft};
 
@@ -32,10 +34,10 @@ fn answer_line<'a>(
     out: &mut [u8],
     at: usize,
 ) -> usize
-    requires { ⌜ at + 32 ≤ length (now out) ⌝ }
+    requires { ⌜ at + answerSize ≤ length (now out) ⌝ }
     ensures { λ r. ⌜ LineSaid dialect (now (cards .entry)) (now (rules .entry)) (now (holdings .entry)) (now (line .entry)) (now (out .entry)) at (now (holdings .exit)) (now (out .exit)) r ⌝ }
 {
-    let mut reply = [0; 32];
+    let mut reply = [0; ANSWER_SIZE];
     let n = replies::answer(dialect, cards, rules, holdings, line, &mut reply);
     buffers::put(&reply, n, out, at)
 }
@@ -50,7 +52,7 @@ fn answer_lines<'a>(
     out: &mut [u8],
     from: usize,
 ) -> Lines
-    requires { ⌜ from + length (now block) * 32 ≤ length (now out) ⌝ }
+    requires { ⌜ from + length (now block) * answerSize ≤ length (now out) ⌝ }
     ensures { λ r. ⌜ LinesSaid dialect (now (cards .entry)) (now (rules .entry)) (now (holdings .entry)) (now (block .entry)) (now (out .entry)) from
         (now (holdings .exit)) (now (out .exit)) (r .rest) (r .count) ⌝ }
 {
@@ -65,7 +67,7 @@ fn answer_lines<'a>(
     Lines { rest: at, count }
 }
 
-// The line that was begun before the block, then the lines in it; what has no LF is kept. Each byte of the block prints 32 bytes at most.
+// The line that was begun before the block, then the lines in it; what has no LF is kept. A byte of the block prints one answer at most.
 pub(crate) fn answer_block<'a>(
     dialect: Dialect,
     cards: &'a CardTable,
@@ -76,7 +78,7 @@ pub(crate) fn answer_block<'a>(
     block: &[u8],
     out: &mut [u8],
 ) -> Walked
-    requires { ⌜ (size ≤ lineRoom dialect) × (lineRoom dialect ≤ length (now buffer)) × (length (now block) * 32 ≤ length (now out)) ⌝ }
+    requires { ⌜ (size ≤ lineRoom dialect) × (lineRoom dialect ≤ length (now buffer)) × (length (now block) * answerSize ≤ length (now out)) ⌝ }
     ensures { λ r. ⌜ BlockSaid dialect (now (cards .entry)) (now (rules .entry)) (now (holdings .entry)) (now (buffer .entry)) size (now (block .entry))
         (now (out .entry)) (now (out .exit)) (r .count) ⌝ }
     ensures { λ r. ⌜ BlockLeft dialect (now (cards .entry)) (now (rules .entry)) (now (holdings .entry)) (now (buffer .entry)) size (now (block .entry))

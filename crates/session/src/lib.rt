@@ -9,6 +9,7 @@ mod replies;
 
 use answers::Answer;
 use answers::Reply;
+use commands::ANSWER_SIZE;
 use commands::Dialect;
 use engine::Engine;
 use rulebook::layout::card_count;
@@ -16,9 +17,6 @@ use rulebook::layout::rule_count;
 ghost use mathlib.Core.Path.{_≡_};
 ghost use Rattle.session.specs.Blocks.{lineRoom};
 ghost use Rattle.session.specs.Contracts.{Begins, Feeds, Finishes};
-
-// No answer is longer.
-const ANSWER_SIZE: usize = 32;
 
 // The dialect, the engine, and how much is kept of the line that has no LF yet.
 pub struct Session {
@@ -49,7 +47,7 @@ pub(crate) fn line_room(dialect: Dialect) -> usize
 }
 
 // A rule text of any bytes: `book` cards rules, or the refusal and its line.
-pub fn begin(dialect: Dialect, text: &[u8], out: &mut [u8; 32]) -> Begun
+pub fn begin(dialect: Dialect, text: &[u8], out: &mut [u8; ANSWER_SIZE]) -> Begun
     ensures { λ r. ⌜ Begins dialect (now (text .entry)) (now (out .entry)) (now (out .exit)) r ⌝ }
 {
     let opened = engine::open(text);
@@ -82,7 +80,7 @@ pub fn begin(dialect: Dialect, text: &[u8], out: &mut [u8; 32]) -> Begun
     }
 }
 
-// As much of a block as there is room to answer, 32 bytes for each of its bytes; nothing where the buffer for a line lacks its room.
+// As much of a block as there is room to answer, if each byte of it had an answer; nothing where the buffer for a line lacks its room.
 pub fn feed(session: Session, buffer: &mut [u8], block: &[u8], out: &mut [u8]) -> Fed
     ensures { λ r. ⌜ Feeds session (now (buffer .entry)) (now (block .entry)) (now (out .entry)) (now (buffer .exit)) (now (out .exit)) r ⌝ }
 {
@@ -123,7 +121,7 @@ pub fn feed(session: Session, buffer: &mut [u8], block: &[u8], out: &mut [u8]) -
 }
 
 // The answer to a last line that lacks its LF, if there is one.
-pub fn finish(session: Session, buffer: &[u8], out: &mut [u8; 32]) -> usize
+pub fn finish(session: Session, buffer: &[u8], out: &mut [u8; ANSWER_SIZE]) -> usize
     ensures { λ r. ⌜ Finishes session (now (buffer .entry)) (now (out .entry)) (now (out .exit)) r ⌝ }
 {
     let dialect = session.dialect;

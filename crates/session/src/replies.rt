@@ -1,5 +1,6 @@
 // A line answered: the command that it is, performed over the tables and the holdings, and its answer printed.
 use answers::Reply;
+use commands::ANSWER_SIZE;
 use commands::Command;
 use commands::Dialect;
 use commands::Words;
@@ -47,7 +48,7 @@ pub(crate) fn answer<'a>(
     rules: &'a RuleTable,
     holdings: &mut [u32; 512],
     line: &[u8],
-    reply: &mut [u8; 32],
+    reply: &mut [u8; ANSWER_SIZE],
 ) -> usize
     ensures { λ r. ⌜ LineAnswered dialect (now (cards .entry)) (now (rules .entry)) (now (holdings .entry)) (now (line .entry)) (now (reply .entry)) r (now (holdings .exit)) (now (reply .exit)) ⌝ }
 {

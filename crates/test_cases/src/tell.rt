@@ -16,7 +16,7 @@ pub(crate) fn open() -> Engine {
 fn tell(label: &[u8], reply: Reply) {
     io::write_all(1, label);
     io::write_all(1, b": ");
-    let mut out = [0; 32];
+    let mut out = [0; commands::ANSWER_SIZE];
     let count = commands::put_reply(reply, &mut out);
     io::write_all(1, &out[..count]);
 }
