@@ -28,7 +28,7 @@ commands-read d line c = (go (admits d line), λ p. rw (T-eq (admits d line) (p 
     go true e = let r = read-printed line c e in (tt, r .0, r .1)
     go false e = never (cc)
 
--- its letter is document 01's
+-- the letter of a printed command is document 01's
 in-scope : (c : Call) → T (inScope (getD (printCommand c) 0 0))
 in-scope (issue m k n) = tt
 in-scope (redeem m k n) = tt

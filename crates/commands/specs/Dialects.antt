@@ -27,7 +27,7 @@ thawcroft = record { longest = 40_960; full = true }
 unfoldable pub admits : Dialect → List ℕ → Bool
 admits d line = leb (length line) (d .longest) && (d .full || inScope (getD line 0 0))
 
--- the command that a line is, without its LF; one that the dialect does not have is none
+-- the command that a line, without its LF, is in the dialect: none where the dialect does not admit it
 unfoldable pub commandIn : Dialect → List ℕ → Option Call
 unfolding admits
 commandIn d line = cond (admits d line) (readCommand line) none

@@ -1,6 +1,6 @@
 -- The reader of a command line by its bytes. It does not have to be believed: `Theorems.antt` states that, of the lines that a dialect
--- admits, exactly the printed well-formed commands are read, and are read back; and some dialect admits any line. Only `pairBytes` says
--- more, as `unhex` takes any word: what a word gives that is no hexadecimal.
+-- admits, exactly the printed well-formed commands are read, and are read back; and every line is admitted by some dialect. Only
+-- `pairBytes` says more, as `unhex` takes any word: what a word gives that is no hexadecimal.
 --
 -- A place past a line's end has the byte 0, which is in no form.
 use mathlib.Core.Bool.{Bool, true, false, not, _&&_, _||_, cond}

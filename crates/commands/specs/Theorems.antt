@@ -21,7 +21,7 @@ abbrev pub CommandsRead : Type 0
 CommandsRead = (d : Dialect) (line : List ℕ) (c : Call)
     → (commandIn d line ≡ some c) ↔ (T (admits d line) × (printCommand c ≡ line) × T (wellFormedCall c))
 
--- in ringswap's it is so for each command of document 01, in a line of up to 8,192 bytes
+-- ringswap's dialect admits every command of document 01 in a line of up to 8,192 bytes; so far there are no others
 abbrev pub RingswapReads : Type 0
 RingswapReads = (line : List ℕ) (c : Call)
     → (commandIn ringswap line ≡ some c) ↔ ((length line ≤ lineLimit) × (printCommand c ≡ line) × T (wellFormedCall c))

@@ -2,7 +2,7 @@
 //
 // `begin` answers for the text, `feed` for as much of a block as there is room to answer, `finish` for a last line without LF. However an
 // input is cut into blocks, what is printed is the same (specs/Theorems.antt); reading and writing are the caller's. So is the buffer for a
-// line that has no LF yet: one byte more than the dialect's longest, lent to `feed` and `finish` as the call before left it.
+// line that has no LF yet: at least one byte more than the dialect's longest line, lent to `feed` and `finish` as the call before left it.
 mod blocks;
 mod buffers;
 mod replies;

@@ -17,7 +17,7 @@ use Rattle.session.specs.Blocks.{Progress, betweenLines, lineRoom, block
 
 -- ---- a line of which the first bytes of a buffer are kept
 
--- so many bytes of buffer′ are these and the part, as far as there is room
+-- the first size′ bytes of buffer′ are the first size of buffer and then the part, as far as there is room
 pub record PartKept (room : ℕ) (buffer : List ℕ) (size : ℕ) (part buffer′ : List ℕ) (size′ : ℕ) : Type 0 where
   pub bytes : take size′ buffer′ ≡ take room (take size buffer ++ part)
   pub within : size′ ≤ room
