@@ -7,7 +7,7 @@ use Prim.Native.Nat.{ℕ, _≤_, _<_}
 use lib.ListN.{length, getD}
 use borrow.Author.Tests.{le-leb, lt-leb, not-true, not-false}
 use Rattle.commands.specs.Reader.{readCommand}
-use Rattle.commands.specs.Dialects.{inScope, admits, commandIn}
+use Rattle.commands.specs.Dialects.{isScopeLetter, admits, commandIn}
 use Rattle.commands.specs.declared.Dialect.{Dialect}
 
 module _ (d : Dialect) (line : List ℕ) where
@@ -15,7 +15,7 @@ module _ (d : Dialect) (line : List ℕ) where
   unfolding admits
   too-long l = rw (lt-leb (length line) (d .longest) l)
 
-  pub by-letter : (f : Bool) → length line ≤ d .longest → f ≡ inScope (getD line 0 0) → (d .full || f) ≡ admits d line
+  pub by-letter : (f : Bool) → length line ≤ d .longest → f ≡ isScopeLetter (getD line 0 0) → (d .full || f) ≡ admits d line
   unfolding admits
   by-letter f l e = rw (le-leb (length line) (d .longest) l, e)
 

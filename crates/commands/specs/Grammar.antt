@@ -1,6 +1,6 @@
--- The programs' command lines and answers, as printers: a command is a call of the model, and a line is a command if it is a printed
--- well-formed call and the program's dialect admits it (`Dialects.antt`). `Theorems.antt` states that the reader takes these lines and no
--- others. Command lines are here without their LF, answers with it.
+-- The programs' command lines and answers, as printers: a command is a call of the model, and a line that is not too long is a command if
+-- it is a printed well-formed call that the program's dialect has (`Dialects.antt`). `Theorems.antt` states that the reader takes these
+-- lines and no others. Command lines are here without their LF, answers with it.
 use mathlib.Core.Bool.{Bool, _&&_, cond}
 use mathlib.Core.List.{List, [], _∷_, _++_}
 use Prim.Native.Char.{code}

@@ -1,5 +1,5 @@
--- The reader of a command line by its bytes. It does not have to be believed: `Theorems.antt` states that, of the lines that a dialect
--- admits, exactly the printed well-formed commands are read, and are read back; and every line is admitted by some dialect. Only
+-- The reader of a command line by its bytes. It does not have to be believed: `Theorems.antt` states that, in every dialect, exactly the
+-- printed well-formed commands of the dialect are read, and are read back; a dialect may have every command and a line of any length. Only
 -- `pairBytes` says more, as `unhex` takes any word: what a word gives that is no hexadecimal.
 --
 -- A place past a line's end has the byte 0, which is in no form.

@@ -10,21 +10,16 @@ use Rattle.model.specs.Lists.{every, isByte, ascii}
 use Rattle.model.specs.Questions.{ok, refused, done, holding}
 use Rattle.model.specs.Calls.{Call, issue, redeem, query, settle}
 use Rattle.model.specs.Grammar.{decimal}
-use Rattle.model.specs.Limits.{numberMost, lineLimit}
+use Rattle.model.specs.Limits.{numberMost}
 use Rattle.commands.specs.Grammar.{hexadecimal, printCommand, printReply, printBad, printBook, wellFormedCall}
 use Rattle.commands.specs.Reader.{pairBytes}
-use Rattle.commands.specs.Dialects.{ringswap, admits, commandIn}
+use Rattle.commands.specs.Dialects.{has, commandIn}
 use Rattle.commands.specs.declared.Dialect.{Dialect}
 
--- in every dialect, a line is the command c exactly if the dialect admits it, it is c printed, and c is well formed
+-- in every dialect, a line is the command c exactly if it is not too long, the dialect has c, the line is c printed, and c is well formed
 abbrev pub CommandsRead : Type 0
 CommandsRead = (d : Dialect) (line : List ℕ) (c : Call)
-    → (commandIn d line ≡ some c) ↔ (T (admits d line) × (printCommand c ≡ line) × T (wellFormedCall c))
-
--- ringswap's dialect admits every command of document 01 in a line of up to 8,192 bytes; so far there are no others
-abbrev pub RingswapReads : Type 0
-RingswapReads = (line : List ℕ) (c : Call)
-    → (commandIn ringswap line ≡ some c) ↔ ((length line ≤ lineLimit) × (printCommand c ≡ line) × T (wellFormedCall c))
+    → (commandIn d line ≡ some c) ↔ ((length line ≤ d .longest) × T (has d c) × (printCommand c ≡ line) × T (wellFormedCall c))
 
 -- the bytes of a printed word are read back
 abbrev pub BytesRead : Type 0

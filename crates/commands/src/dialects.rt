@@ -3,15 +3,19 @@ use crate::Command;
 use crate::Dialect;
 use crate::lines;
 ghost use mathlib.Core.Path.{_≡_};
-ghost use Rattle.commands.specs.Dialects.{inScope, admits, commandIn};
+ghost use Rattle.commands.specs.Dialects.{isScopeLetter, admits, commandIn};
 ghost use Rattle.commands.specs.Dialects as dialects;
 ghost use Rattle.commands.specs.View.{ReadAs};
+
+pub const RINGSWAP_LONGEST: u32 = 8192;
+
+pub const THAWCROFT_LONGEST: u32 = 40960;
 
 pub fn ringswap() -> Dialect
     ensures { λ r. ⌜ r ≡ dialects.ringswap ⌝ }
 {
     Dialect {
-        longest: 8192,
+        longest: RINGSWAP_LONGEST,
         full: false,
     }
 }
@@ -20,14 +24,14 @@ pub fn thawcroft() -> Dialect
     ensures { λ r. ⌜ r ≡ dialects.thawcroft ⌝ }
 {
     Dialect {
-        longest: 40960,
+        longest: THAWCROFT_LONGEST,
         full: true,
     }
 }
 
 // Whether a letter is that of a command of document 01, the scope.
-fn in_scope(letter: u8) -> bool
-    ensures { λ r. ⌜ r ≡ inScope letter ⌝ }
+fn is_scope_letter(letter: u8) -> bool
+    ensures { λ r. ⌜ r ≡ isScopeLetter letter ⌝ }
 {
     match letter {
         b'I' => true,
@@ -44,7 +48,7 @@ fn admits(dialect: Dialect, line: &[u8]) -> bool
     if (dialect.longest as usize) < line.len() {
         return false;
     }
-    dialect.full | in_scope(ascii::byte(line, 0))
+    dialect.full | is_scope_letter(ascii::byte(line, 0))
 }
 
 // What a line commands in a dialect, for any bytes: a command that the dialect does not have is ill-formed.

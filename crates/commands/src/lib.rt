@@ -7,6 +7,8 @@ mod lines;
 mod numbers;
 mod replies;
 
+pub use dialects::RINGSWAP_LONGEST;
+pub use dialects::THAWCROFT_LONGEST;
 pub use dialects::read_in;
 pub use dialects::ringswap;
 pub use dialects::thawcroft;

@@ -2,7 +2,7 @@
 //
 // What is printed of a text and of blocks of input is the crate session's, proved there; here is the reading and writing. No contract can
 // say what a system call reads or writes, so the exported functions have no `ensures`; that they end is proved. Every answer is written
-// before more input is waited for.
+// before more input is waited for. A read or a write that fails ends the conversation.
 use commands::ANSWER_SIZE;
 use commands::Dialect;
 use libc::STDIN_FILENO;
@@ -12,10 +12,24 @@ ghost use mathlib.Core.Path.{_≡_};
 ghost use lib.ListN.{length};
 ghost use Rattle.console.specs.inner.Bounds.{InBuffer};
 
+// One byte more than a rule text may have is enough to refuse it.
+const TEXT_ROOM: usize = limits::TEXT_LIMIT as usize + 1;
+
+// A large read, and all answers to it.
+const BLOCK_SIZE: usize = 16384;
+
+const ANSWERS_SIZE: usize = BLOCK_SIZE * ANSWER_SIZE;
+
 // What reading a file gives: so many bytes of it, or that it cannot be read.
 enum Text {
     Read(usize),
     Missing,
+}
+
+// The session after a block, and whether all of the block was answered.
+struct AfterBlock {
+    session: Session,
+    whole: bool,
 }
 
 // A file's bytes from its start, as far as there is room.
@@ -49,66 +63,77 @@ fn read_book(name: &[u8], text: &mut [u8]) -> Text
     read
 }
 
-// For a book that cannot be read, and for arguments that name none.
+// For a book that cannot be read, and for more arguments than one.
 pub fn say_bad() {
     let mut out = [0; ANSWER_SIZE];
     let count = commands::put_bad(&mut out);
     io::write_all(STDOUT_FILENO, &out[..count]);
 }
 
-// Room for a large read.
-fn block_buffer() -> [u8; 16384]
-    ensures { λ r. ⌜ 16384 ≡ length r ⌝ }
-{
-    [0; 16384]
-}
-
-// Room for all answers to a block.
-fn answer_buffer() -> [u8; 524288]
-    ensures { λ r. ⌜ 524288 ≡ length r ⌝ }
-{
-    [0; 524288]
-}
-
-// One byte more than a rule text may have is enough to refuse it.
-fn text_buffer() -> [u8; 16385]
+fn text_buffer() -> [u8; TEXT_ROOM]
     ensures { λ r. ⌜ 16385 ≡ length r ⌝ }
 {
-    [0; 16385]
+    [0; TEXT_ROOM]
+}
+
+fn block_buffer() -> [u8; BLOCK_SIZE]
+    ensures { λ r. ⌜ 16384 ≡ length r ⌝ }
+{
+    [0; BLOCK_SIZE]
+}
+
+fn answers_buffer() -> [u8; ANSWERS_SIZE]
+    ensures { λ r. ⌜ 524288 ≡ length r ⌝ }
+{
+    [0; ANSWERS_SIZE]
+}
+
+fn after(session: Session, whole: bool) -> AfterBlock {
+    AfterBlock { session, whole }
 }
 
 // A block that was read, answered and written.
-fn answer(session: Session, buffer: &mut [u8], block: &[u8], out: &mut [u8]) -> Session {
+fn answer(session: Session, buffer: &mut [u8], block: &[u8], out: &mut [u8]) -> AfterBlock {
     let mut next = session;
     let mut at = 0;
     while at < block.len() {
         let fed = session::feed(next, buffer, &block[at..], out);
         let taken = fed.taken;
         let count = fed.count;
-        io::write_all(STDOUT_FILENO, &out[..count]);
-        // A buffer without room: no call would take more.
-        if taken == 0 {
-            return fed.session;
-        }
         next = fed.session;
+        if !io::write_all(STDOUT_FILENO, &out[..count]) {
+            return after(next, false);
+        }
+        // The buffer lacks its room: no call would take more.
+        if taken == 0 {
+            return after(next, false);
+        }
         at += taken;
     }
-    next
+    after(next, true)
 }
 
 // The input to its end, then a last line that lacks its LF. The count of reads is what shows that this ends.
 fn converse(session: Session, buffer: &mut [u8]) {
     let mut next = session;
     let mut block = block_buffer();
-    let mut out = answer_buffer();
+    let mut out = answers_buffer();
     let mut reads: u64 = 18446744073709551615;
     while 0 < reads {
         let got = libc::read(STDIN_FILENO, &mut block);
+        // Not the input's end: what was read of a line is not the line.
+        if got < 0 {
+            return;
+        }
         let count = io::count(got, &block);
         if count == 0 {
             break;
         }
-        next = answer(next, buffer, &block[..count], &mut out);
+        let answered = answer(next, buffer, &block[..count], &mut out);
+        if !answered.whole {
+            return;
+        }
+        next = answered.session;
         reads -= 1;
     }
     let mut last = [0; ANSWER_SIZE];
@@ -127,8 +152,8 @@ pub fn run(dialect: Dialect, name: &[u8], buffer: &mut [u8]) {
     let mut out = [0; ANSWER_SIZE];
     let begun = session::begin(dialect, &text[..size], &mut out);
     let count = begun.count;
-    io::write_all(STDOUT_FILENO, &out[..count]);
-    if begun.opened {
+    let written = io::write_all(STDOUT_FILENO, &out[..count]);
+    if written & begun.opened {
         let session = begun.session;
         converse(session, buffer);
     }

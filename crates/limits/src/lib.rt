@@ -4,6 +4,9 @@ ghost use mathlib.Core.Path.{_≡_};
 ghost use Prim.Native.Nat.{min};
 ghost use Rattle.model.specs.Lists.{within};
 
+// The most bytes of a rule text.
+pub const TEXT_LIMIT: u16 = 16_384;
+
 pub const CARD_LIMIT: u8 = 32;
 
 pub const KIND_COUNT: u8 = 16;

@@ -4,10 +4,13 @@ ghost use lib.ListN.{length};
 ghost use Rattle.commands.specs.Dialects.{ringswap};
 ghost use Rattle.session.specs.Blocks.{lineRoom};
 
-fn line_buffer() -> [u8; 8193]
+// One byte more than the longest line.
+const LINE_ROOM: usize = commands::RINGSWAP_LONGEST as usize + 1;
+
+fn line_buffer() -> [u8; LINE_ROOM]
     ensures { λ r. ⌜ length r ≡ lineRoom ringswap ⌝ }
 {
-    [0; 8193]
+    [0; LINE_ROOM]
 }
 
 fn main() {

@@ -17,8 +17,7 @@ use layout::CardTable;
 use layout::RULE_TABLE_SIZE;
 use layout::RuleTable;
 
-// The bytes of a rule text.
-const TEXT_LIMIT: usize = 16_384;
+const TEXT_LIMIT: usize = limits::TEXT_LIMIT as usize;
 
 // Cards with their groups, and rules, by value. Their layout is that of `layout`, their meaning that of specs/View.antt.
 pub struct Tables {

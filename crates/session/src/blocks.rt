@@ -15,7 +15,7 @@ ghost use Rattle.session.specs.inner.Parts.{LineSaid, LinesSaid, BlockSa
 // Where the part of a block that has no LF begins, and the place after the answers to its lines.
 struct Lines {
     rest: usize,
-    count: usize,
+    next: usize,
 }
 
 // How much of the last line is kept, and how many bytes were printed.
@@ -54,17 +54,17 @@ fn answer_lines<'a>(
 ) -> Lines
     requires { ⌜ from + length (now block) * answerSize ≤ length (now out) ⌝ }
     ensures { λ r. ⌜ LinesSaid dialect (now (cards .entry)) (now (rules .entry)) (now (holdings .entry)) (now (block .entry)) (now (out .entry)) from
-        (now (holdings .exit)) (now (out .exit)) (r .rest) (r .count) ⌝ }
+        (now (holdings .exit)) (now (out .exit)) (r .rest) (r .next) ⌝ }
 {
     let mut at = 0;
-    let mut count = from;
+    let mut next = from;
     let mut end = ascii::find(block, 0, b'\n');
     while end < block.len() {
-        count = answer_line(dialect, cards, rules, holdings, &block[at..end], out, count);
+        next = answer_line(dialect, cards, rules, holdings, &block[at..end], out, next);
         at = end + 1;
         end = ascii::find(block, at, b'\n');
     }
-    Lines { rest: at, count }
+    Lines { rest: at, next }
 }
 
 // The line that was begun before the block, then the lines in it; what has no LF is kept. A byte of the block prints one answer at most.
@@ -93,13 +93,13 @@ pub(crate) fn answer_block<'a>(
             count: 0,
         };
     }
-    let next = end + 1;
+    let after = end + 1;
     let first = answer_line(dialect, cards, rules, holdings, &buffer[..kept], out, 0);
-    let lines = answer_lines(dialect, cards, rules, holdings, &block[next..], out, first);
-    let rest = next + lines.rest;
+    let lines = answer_lines(dialect, cards, rules, holdings, &block[after..], out, first);
+    let rest = after + lines.rest;
     let left = buffers::keep(buffer, room, 0, &block[rest..]);
     Walked {
         size: left,
-        count: lines.count,
+        count: lines.next,
     }
 }

@@ -5,10 +5,13 @@ ghost use lib.ListN.{length};
 ghost use Rattle.commands.specs.Dialects.{thawcroft};
 ghost use Rattle.session.specs.Blocks.{lineRoom};
 
-fn line_buffer() -> [u8; 40961]
+// One byte more than the longest line.
+const LINE_ROOM: usize = commands::THAWCROFT_LONGEST as usize + 1;
+
+fn line_buffer() -> [u8; LINE_ROOM]
     ensures { λ r. ⌜ length r ≡ lineRoom thawcroft ⌝ }
 {
-    [0; 40961]
+    [0; LINE_ROOM]
 }
 
 fn run(name: &[u8]) {

@@ -16,12 +16,12 @@ abbrev μ-loop : tie.MeasureT-loop
 μ-loop buffer₀ block out₀ next₀ at₀ buffer out next at = length block - at
 
 slice-aggregate-write-all : tie.Need-slice-aggregate-write-all Inv-loop μ-loop
-slice-aggregate-write-all c = printed-count (c .before .before .before .before .before .feed .ensures .said) refl
+slice-aggregate-write-all c = printed-count (c .before .before .before .before .before .before .feed .ensures .said) refl
 
 -- what was taken ends in the block, or with it
-goes-on : (c : tie.After-next Inv-loop μ-loop) → let fed = c .before .before .before .before .before .before .before .before in let at = fed .before .before .before .before .before in at .loop .at + fed .feed .result .taken ≤ length (at .before .before .before .before .args .block .now)
+goes-on : (c : tie.Else2 Inv-loop μ-loop) → let fed = c .before .before .before .before .before .before .before .before .before in let at = fed .before .before .before .before .before in at .loop .at + fed .feed .result .taken ≤ length (at .before .before .before .before .args .block .now)
 goes-on c =
-    let fed = c .before .before .before .before .before .before .before .before in
+    let fed = c .before .before .before .before .before .before .before .before .before in
     let at = fed .before .before .before .before .before in
     omega (arith, taken-few (fed .feed .ensures), at .loop .inv .0)
 
@@ -48,12 +48,18 @@ answer-spec =
     (λ c. search needs)
     slice-aggregate-write-all
     (λ c κs. search needs)
+    (λ c κs. search needs)
+    (λ c. search needs)
+    (λ c. search needs)
+    (λ c. search needs)
+    (λ c κs. search needs)
     (λ c. search needs)
     (λ c. search needs)
     (λ c. search needs)
     add-at
     loop-less
     loop-again
+    (λ c κs. search needs)
     (λ c. search needs)
     (λ c. search needs)
     (λ c. search needs))
