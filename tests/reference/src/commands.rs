@@ -1,10 +1,13 @@
 //! The programs `ringswap` and `thawcroft` over the plain engine: command lines read, answers
 //! printed.
 
-use crate::book::Refusal;
+use crate::book::{Book, Refusal};
 use crate::engine::Engine;
 
 const BAD: &[u8] = b"bad\n";
+
+/// Most words of a command, its letter among them.
+const MAX_WORDS: usize = 4;
 
 /// Which commands a program answers, and how long its lines may be.
 #[derive(Clone, Copy, Debug, PartialEq, Eq)]
@@ -73,17 +76,23 @@ impl Session {
             print_refusal(refusal, out);
             return None;
         }
-        out.extend_from_slice(b"book ");
-        print_number(engine.book().cards.len() as u32, out);
-        out.push(b' ');
-        print_number(engine.book().rules.len() as u32, out);
-        out.push(b'\n');
-        Some(Session {
+        print_book(engine.book(), out);
+        Some(Session::new(dialect, engine))
+    }
+
+    /// A run that goes on from an engine.
+    pub fn new(dialect: Dialect, engine: Engine) -> Session {
+        Session {
             dialect,
             engine,
             partial: Vec::with_capacity(dialect.longest_line() + 1),
             bytes: vec![0; dialect.longest_line() / 2],
-        })
+        }
+    }
+
+    /// The engine after the lines that were answered so far.
+    pub fn engine(&self) -> &Engine {
+        &self.engine
     }
 
     /// Answers every line that ends in this piece of the input.
@@ -119,77 +128,73 @@ impl Session {
     }
 
     fn answer(&mut self, line: &[u8], out: &mut Vec<u8>) {
-        let command = if line.len() > self.dialect.longest_line() {
-            None
-        } else {
-            Command::read(self.dialect, line, &mut self.bytes)
-        };
-        let Some(command) = command else {
-            return out.extend_from_slice(BAD);
-        };
-        let engine = &mut self.engine;
-        let answer = match command {
-            Command::Issue(card, kind, count) => {
-                engine.issue(card, kind, count).map(|()| print_done(out))
-            }
-            Command::Redeem(card, kind, count) => {
-                engine.redeem(card, kind, count).map(|()| print_done(out))
-            }
-            Command::Holding(card, kind) => {
-                engine.holding(card, kind).map(|held| print_held(held, out))
-            }
-            Command::Settle(exchange, proof) => {
+        let fits = line.len() <= self.dialect.longest_line();
+        if !fits || self.command(line, out).is_none() {
+            out.extend_from_slice(BAD);
+        }
+    }
+
+    /// Makes the call of a line and prints its answer; an ill-formed line does neither. A command
+    /// with a dialect in place of `_` is of that dialect alone.
+    fn command(&mut self, line: &[u8], out: &mut Vec<u8>) -> Option<()> {
+        let (engine, bytes) = (&mut self.engine, &mut self.bytes);
+        let answer = match (self.dialect, words(line, &mut [&[]; MAX_WORDS + 1])) {
+            (_, [b"I", card, kind, count]) => engine
+                .issue(number(card)?, number(kind)?, number(count)?)
+                .map(|()| print_done(out)),
+            (_, [b"D", card, kind, count]) => engine
+                .redeem(number(card)?, number(kind)?, number(count)?)
+                .map(|()| print_done(out)),
+            (_, [b"H", card, kind]) => engine
+                .holding(number(card)?, number(kind)?)
+                .map(|held| print_held(held, out)),
+            (_, [b"S", exchange, proof]) => {
+                let (exchange, bytes) = hexadecimal(exchange, bytes)?;
+                let (proof, _) = hexadecimal(proof, bytes)?;
                 engine.settle(exchange, proof).map(|()| print_done(out))
             }
+            _ => return None,
         };
         if let Err(refusal) = answer {
             print_refusal(refusal, out);
         }
+        Some(())
     }
 }
 
-/// A well-formed line.
-enum Command<'b> {
-    Issue(u32, u32, u32),
-    Redeem(u32, u32, u32),
-    Holding(u32, u32),
-    Settle(&'b [u8], &'b [u8]),
-}
-
-impl<'b> Command<'b> {
-    fn read(dialect: Dialect, line: &[u8], bytes: &'b mut [u8]) -> Option<Command<'b>> {
-        let mut words = line.split(|&byte| byte == b' ');
-        let letter = words.next()?;
-        let mut word = || words.next();
-        // A command with a dialect's name in place of `_` is of that dialect alone.
-        let command = match (letter, dialect) {
-            (b"I", _) => Command::Issue(number(word()?)?, number(word()?)?, number(word()?)?),
-            (b"D", _) => Command::Redeem(number(word()?)?, number(word()?)?, number(word()?)?),
-            (b"H", _) => Command::Holding(number(word()?)?, number(word()?)?),
-            (b"S", _) => {
-                let (exchange, bytes) = hexadecimal(word()?, bytes)?;
-                let (proof, _) = hexadecimal(word()?, bytes)?;
-                Command::Settle(exchange, proof)
-            }
-            _ => return None,
-        };
-        word().is_none().then_some(command)
+/// The words of a line, put into the room. All that follows the most words of a command is one
+/// word more, so that the line is none.
+fn words<'r, 'l>(line: &'l [u8], room: &'r mut [&'l [u8]; MAX_WORDS + 1]) -> &'r [&'l [u8]] {
+    let mut count = 0;
+    for word in line.splitn(MAX_WORDS + 1, |&byte| byte == b' ') {
+        room[count] = word;
+        count += 1;
     }
+    &room[..count]
 }
 
-/// A decimal number of 32 bits without a leading zero.
-fn number(word: &[u8]) -> Option<u32> {
-    if word.is_empty() || word.len() > 10 || (word[0] == b'0' && word.len() > 1) {
+/// A decimal number of up to 64 bits without a leading zero.
+fn number<N: TryFrom<u64>>(word: &[u8]) -> Option<N> {
+    const TENTH: u64 = u64::MAX / 10;
+    let (&first, others) = word.split_first()?;
+    if first == b'0' && !others.is_empty() {
         return None;
     }
-    let mut number = 0u64;
-    for &byte in word {
-        if !byte.is_ascii_digit() {
+    let mut number = digit(first)?;
+    for &byte in others {
+        let digit = digit(byte)?;
+        // One comparison is enough for all but the largest numbers.
+        if number >= TENTH && (number > TENTH || digit > u64::MAX % 10) {
             return None;
         }
-        number = number * 10 + u64::from(byte - b'0');
+        number = number * 10 + digit;
     }
     number.try_into().ok()
+}
+
+fn digit(byte: u8) -> Option<u64> {
+    let digit = u64::from(byte).wrapping_sub(u64::from(b'0'));
+    (digit < 10).then_some(digit)
 }
 
 /// Decodes a word into the front of the room; the bytes and the room left are answered.
@@ -223,6 +228,14 @@ const NIBBLES: [u8; 256] = {
     nibbles
 };
 
+fn print_book(book: &Book, out: &mut Vec<u8>) {
+    out.extend_from_slice(b"book ");
+    print_number(book.cards.len() as u32, out);
+    out.push(b' ');
+    print_number(book.rules.len() as u32, out);
+    out.push(b'\n');
+}
+
 fn print_done(out: &mut Vec<u8>) {
     out.extend_from_slice(b"0 0\n");
 }
@@ -252,4 +265,33 @@ fn print_number(mut number: u32, out: &mut Vec<u8>) {
         }
     }
     out.extend_from_slice(&digits[first..]);
+}
+
+#[cfg(test)]
+mod tests {
+    use super::number;
+
+    #[test]
+    fn numbers_end_where_their_width_does() {
+        let table = [
+            ("0", Some(0), Some(0)),
+            ("00", None, None),
+            ("01", None, None),
+            ("", None, None),
+            ("-1", None, None),
+            ("4294967295", Some(u32::MAX), Some(u32::MAX.into())),
+            ("4294967296", None, Some(1 << 32)),
+            ("18446744073709551609", None, Some(u64::MAX - 6)),
+            ("18446744073709551615", None, Some(u64::MAX)),
+            ("18446744073709551616", None, None),
+            ("18446744073709551620", None, None),
+            ("20000000000000000000", None, None),
+            ("99999999999999999999", None, None),
+            ("184467440737095516150", None, None),
+        ];
+        for (word, narrow, wide) in table {
+            assert_eq!(number(word.as_bytes()), narrow, "{word}");
+            assert_eq!(number(word.as_bytes()), wide, "{word}");
+        }
+    }
 }

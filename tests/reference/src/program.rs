@@ -1,4 +1,4 @@
-//! Runs a program in a fresh folder, as the runners need it.
+//! What the runners share: a program run in a fresh folder, and lines shown in reports.
 
 use crate::commands::Dialect;
 use crate::generate::BookFile;
@@ -13,6 +13,16 @@ use std::time::{Duration, Instant};
 
 /// How long a program may take before it counts as hanging.
 pub const PATIENCE: Duration = Duration::from_secs(5);
+
+/// A line to be read by people: as much of it as is said, and its length if there is more.
+pub fn shown(line: &[u8], most: usize) -> String {
+    match line.get(..most) {
+        Some(start) if line.len() > most => {
+            format!("{}... {} bytes", start.escape_ascii(), line.len())
+        }
+        _ => line.escape_ascii().to_string(),
+    }
+}
 
 /// A folder with a book, taken away again at the end.
 struct Folder(PathBuf);

@@ -5,13 +5,16 @@
 
 use reference::commands::{Dialect, Session};
 use reference::generate::{long_settlement, BookFile};
-use reference::program::{Program, PATIENCE};
+use reference::program::{shown, Program, PATIENCE};
 use reference::ring;
 use std::io::{BufRead, BufReader, Write};
 use std::process::ExitCode;
 use std::sync::mpsc::{self, Receiver};
 use std::thread;
 use std::time::Duration;
+
+/// Longest part of a line that a complaint shows.
+const SHOWN: usize = 100;
 
 fn main() -> ExitCode {
     let paths: Vec<String> = std::env::args().skip(1).collect();
@@ -51,7 +54,7 @@ fn converse(program: &Program) -> Result<usize, String> {
             thread::sleep(Duration::from_millis(20));
             write(&mut input, second)?;
         }
-        expect(&answers, &mut expected, &shown(line))?;
+        expect(&answers, &mut expected, &shown(line, SHOWN))?;
     }
 
     let last = b"H 1 3";
@@ -61,7 +64,7 @@ fn converse(program: &Program) -> Result<usize, String> {
     drop(input);
     expect(&answers, &mut expected, "a last line without LF")?;
     if let Ok(more) = answers.recv_timeout(PATIENCE) {
-        return Err(format!("an answer too many: {}", shown(&more)));
+        return Err(format!("an answer too many: {}", shown(&more, SHOWN)));
     }
     match process.end() {
         Ok(status) if status.success() => Ok(lines.len() + 2),
@@ -137,14 +140,10 @@ fn expect(
     if answer != *expected {
         return Err(format!(
             "{command}: expected {}, got {}",
-            shown(expected),
-            shown(&answer)
+            shown(expected, SHOWN),
+            shown(&answer, SHOWN)
         ));
     }
     expected.clear();
     Ok(())
-}
-
-fn shown(line: &[u8]) -> String {
-    line[..line.len().min(100)].escape_ascii().to_string()
 }

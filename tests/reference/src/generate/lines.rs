@@ -130,8 +130,8 @@ const FOREIGN: [&str; 7] = [
 ];
 
 /// Beginnings of long lines, what fills them up, and their ends. Those of hexadecimal words are
-/// right but for their length, if an even number of digits fills them. The last ends as a command
-/// does, and is none.
+/// right but for their length, if an even number of digits fills them: the first is then of even
+/// length, and the second of odd. The last ends as a command does, and is none.
 const LONG: [(&str, &str, &str); 11] = [
     ("S - ", "0", ""),
     ("S 010102 ", "0", ""),
@@ -170,12 +170,7 @@ pub fn unlikely(random: &mut Random) -> Vec<u8> {
 
 /// A well-formed settlement of so many bytes, which is refused or too long.
 pub fn long_settlement(length: usize) -> Vec<u8> {
-    let start = if length.is_multiple_of(2) {
-        "S - "
-    } else {
-        "S 010102 "
-    };
-    filled((start, "0", ""), length)
+    filled(LONG[length % 2], length)
 }
 
 /// The digits of a word, or `-` for no bytes.

@@ -4,7 +4,7 @@ use super::books::{self, damaged, limits, small, valid};
 use super::lines::{self, hexadecimal};
 use super::swaps::{Settlement, Swap};
 use crate::book::KINDS;
-use crate::commands::Dialect;
+use crate::commands::{Dialect, Session};
 use crate::engine::{Engine, MAX_SUM};
 use crate::random::Random;
 
@@ -96,29 +96,33 @@ const STEPS: &[(usize, Step)] = &[
     (9, Script::swap),
 ];
 
-/// Command lines being written, beside an engine that has followed them so far.
+/// Command lines being written, and a run that has followed them so far.
 pub struct Script {
-    pub engine: Engine,
     pub input: Vec<u8>,
+    session: Session,
 }
 
 impl Script {
     pub fn new(text: &[u8]) -> Script {
+        let (engine, _) = Engine::open(text);
         Script {
-            engine: Engine::open(text).0,
             input: Vec::new(),
+            session: Session::new(Dialect::Thawcroft, engine),
         }
     }
 
-    // Whether the model engine refuses a call is no matter here: it is then as it was.
+    /// The engine that thawcroft has after the lines so far; ringswap, with fewer commands, may
+    /// have another. After a text that does not open it is the empty text's, though a program
+    /// stops there.
+    pub fn engine(&self) -> &Engine {
+        self.session.engine()
+    }
 
     pub fn issue(&mut self, card: u32, kind: u32, count: u32) {
-        let _ = self.engine.issue(card, kind, count);
         self.line(format!("I {card} {kind} {count}"));
     }
 
     fn redeem(&mut self, card: u32, kind: u32, count: u32) {
-        let _ = self.engine.redeem(card, kind, count);
         self.line(format!("D {card} {kind} {count}"));
     }
 
@@ -127,13 +131,14 @@ impl Script {
     }
 
     pub fn settle(&mut self, settlement: &Settlement) {
-        let _ = self.engine.settle(&settlement.exchange, &settlement.proof);
         self.line(settle_line(settlement));
     }
 
     fn line(&mut self, line: impl AsRef<[u8]>) {
+        let start = self.input.len();
         self.input.extend_from_slice(line.as_ref());
         self.input.push(b'\n');
+        self.session.feed(&self.input[start..], &mut Vec::new());
     }
 
     fn unlikely(&mut self, random: &mut Random) {
@@ -145,7 +150,7 @@ impl Script {
     }
 
     fn some_swap(&self, random: &mut Random) -> Option<Swap> {
-        let book = self.engine.book();
+        let book = self.engine().book();
         match random.below(4) {
             0 => Swap::find_long(book, random),
             1 => Swap::find(book, random),
@@ -157,7 +162,7 @@ impl Script {
     }
 
     fn simple(&mut self, random: &mut Random) {
-        let cards = self.engine.book().cards.len().max(1);
+        let cards = self.engine().book().cards.len().max(1);
         let card = random.within(1, cards) as u32;
         let kind = random.within(1, 4) as u32;
         let count = random.pick(&[0, 1, 2, 3, 10, 1_000, 600_000_000]);
@@ -166,7 +171,7 @@ impl Script {
 
     /// A call whose numbers are at the ends of what they may be, or beyond.
     fn extreme(&mut self, random: &mut Random) {
-        let cards = self.engine.book().cards.len() as u32;
+        let cards = self.engine().book().cards.len() as u32;
         let card = random.pick(&[0, 1, cards, cards + 1, 32, 33, 256, 257, u32::MAX]);
         let kind = random.pick(&[0, 1, 16, 17, 32, 256, 257, u32::MAX]);
         let count = random.pick(&[0, 1, MAX_SUM, MAX_SUM + 1, 1 << 31, u32::MAX - 1, u32::MAX]);
@@ -184,13 +189,18 @@ impl Script {
 
     /// Issues all that may be issued of a kind, then more, and redeems it again.
     fn fill_up(&mut self, random: &mut Random) {
-        let cards = self.engine.book().cards.len();
+        let cards = self.engine().book().cards.len();
         if cards == 0 {
             return self.simple(random);
         }
         let card = random.within(1, cards) as u32;
         let kind = random.within(1, KINDS);
-        let of_kind = self.engine.holdings().iter().skip(kind - 1).step_by(KINDS);
+        let of_kind = self
+            .engine()
+            .holdings()
+            .iter()
+            .skip(kind - 1)
+            .step_by(KINDS);
         let left = MAX_SUM - of_kind.sum::<u32>();
         let kind = kind as u32;
         self.issue(card, kind, left + 1);
@@ -201,7 +211,7 @@ impl Script {
             random.pick(&[0, 1, u32::MAX]),
         );
         self.query(card, kind);
-        let held = self.engine.holding(card, kind).unwrap_or(0);
+        let held = self.engine().holding(card, kind).unwrap_or(0);
         self.redeem(card, kind, held.saturating_add(random.pick(&[0, 1])));
         self.redeem(card, kind, held - random.pick(&[0, 1, 5]).min(held));
     }
@@ -222,7 +232,7 @@ impl Script {
             2 => {
                 self.cover(swap);
                 let [giver, kind, _] = random.pick(&swap.transfers).map(u32::from);
-                let held = self.engine.holding(giver, kind).unwrap_or(0);
+                let held = self.engine().holding(giver, kind).unwrap_or(0);
                 let given = gifts(swap, giver, kind);
                 self.redeem(giver, kind, (held + 1).saturating_sub(given));
                 self.settle(&settlement);
@@ -233,7 +243,7 @@ impl Script {
                 self.settle_and_query(&less, &less.settlement(random));
             }
             4 => {
-                let more = swap.with_one(self.engine.book(), random);
+                let more = swap.with_one(self.engine().book(), random);
                 self.settle_and_query(&more, &more.settlement(random));
             }
             5 => {
@@ -244,7 +254,7 @@ impl Script {
             _ => {
                 let mut damaged = settlement;
                 for _ in 0..random.pick(&[1, 1, 1, 2]) {
-                    damaged.damage(self.engine.book(), random);
+                    damaged.damage(self.engine().book(), random);
                 }
                 self.settle_and_query(swap, &damaged);
             }
@@ -264,7 +274,7 @@ impl Script {
     fn cover(&mut self, swap: &Swap) {
         for transfer in &swap.transfers {
             let [giver, kind, _] = transfer.map(u32::from);
-            let held = self.engine.holding(giver, kind).unwrap_or(0);
+            let held = self.engine().holding(giver, kind).unwrap_or(0);
             let given = gifts(swap, giver, kind);
             if held < given {
                 self.issue(giver, kind, given - held);

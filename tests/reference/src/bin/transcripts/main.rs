@@ -12,7 +12,7 @@ use reference::generate::{self, BookFile, Script, Settlement, Transcript};
 use reference::program::Program;
 use reference::random::Random;
 use reference::search::{self, Choice};
-use report::{difference, lines, report};
+use report::{accepted, difference, lines, report};
 use std::process::ExitCode;
 use tally::{table, Tally};
 
@@ -143,7 +143,7 @@ impl Runner {
         for output in self.compare(&transcript, case, random)? {
             let answers: Vec<_> = lines(&output).collect();
             for &(number, fair) in &verdicts {
-                if (answers[number] == b"0 0") != fair {
+                if accepted(answers[number]) != fair {
                     return Err(failed(format!(
                         "answer {} while fair is {fair}",
                         number + 1
@@ -161,7 +161,7 @@ impl Runner {
         script: &mut Script,
         random: &mut Random,
     ) -> Result<Vec<(usize, bool)>, String> {
-        let book = script.engine.book().clone();
+        let book = script.engine().book().clone();
         let decider = Decider::new(&book);
         let mut verdicts = Vec::new();
         for _ in 0..EXCHANGES {
@@ -211,7 +211,7 @@ fn agreed(program: &Program, transcript: &Transcript, pieces: &[&[u8]]) -> Resul
 /// A script in which every card was issued plenty of every kind.
 fn stocked(text: &[u8]) -> Script {
     let mut script = Script::new(text);
-    for card in 1..=script.engine.book().cards.len() as u32 {
+    for card in 1..=script.engine().book().cards.len() as u32 {
         for kind in 1..=KINDS as u32 {
             script.issue(card, kind, 1_000);
         }

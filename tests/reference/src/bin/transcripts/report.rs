@@ -1,6 +1,7 @@
 //! What a failed run tells.
 
 use reference::generate::{BookFile, Transcript};
+use reference::program::shown;
 use std::fmt::Write;
 
 /// Longest part of a line that a report shows.
@@ -28,7 +29,8 @@ pub fn difference(transcript: &Transcript, expected: &[u8], actual: &[u8]) -> St
         let command = commands.next();
         let (wanted, given) = (expected.next(), actual.next());
         if wanted != given || wanted.is_none() {
-            let shown = |line: Option<&[u8]>| line.map_or("(none)".into(), shown);
+            let shown =
+                |line: Option<&[u8]>| line.map_or("(none)".into(), |line| shown(line, SHOWN));
             return format!(
                 "answer {number} differs
   command:  {}
@@ -44,7 +46,7 @@ pub fn difference(transcript: &Transcript, expected: &[u8], actual: &[u8]) -> St
 }
 
 /// What each answer belongs to; the first one is the book's.
-pub fn commands(transcript: &Transcript) -> impl Iterator<Item = &[u8]> {
+fn commands(transcript: &Transcript) -> impl Iterator<Item = &[u8]> {
     std::iter::once(b"book.txt".as_slice()).chain(lines(&transcript.input))
 }
 
@@ -54,15 +56,18 @@ pub fn lines(bytes: &[u8]) -> impl Iterator<Item = &[u8]> {
         .map(|line| line.strip_suffix(b"\n").unwrap_or(line))
 }
 
-fn list(report: &mut String, bytes: &[u8]) {
-    for line in lines(bytes) {
-        let _ = writeln!(report, "    {}", shown(line));
-    }
+/// Whether the call was accepted; only the answer's first word tells.
+pub fn accepted(answer: &[u8]) -> bool {
+    first_word(answer) == b"0"
 }
 
-fn shown(line: &[u8]) -> String {
-    match line.get(..SHOWN) {
-        Some(start) => format!("{}... {} bytes", start.escape_ascii(), line.len()),
-        None => line.escape_ascii().to_string(),
+pub fn first_word(answer: &[u8]) -> &[u8] {
+    let mut words = answer.split(|&byte| byte == b' ');
+    words.next().unwrap_or_default()
+}
+
+fn list(report: &mut String, bytes: &[u8]) {
+    for line in lines(bytes) {
+        let _ = writeln!(report, "    {}", shown(line, SHOWN));
     }
 }

@@ -1,27 +1,31 @@
 //! Which answers were met in a run, and how often.
 
-use crate::report::{commands, lines};
+use crate::report::{first_word, lines};
 use reference::commands::Dialect;
 use reference::generate::Transcript;
 use std::collections::BTreeMap;
 use std::fmt::Write;
 
-/// First words of answers, and the programs that must have given each of them in a run. No program
-/// may give any other; 23 cannot happen.
-const ANSWERS: [(&str, &[Dialect]); 2] = [
-    (
-        "1 2 3 4 5 6 7 8 9 10 11 12 13 14 15 16 17 18 19 20 21 22",
-        &Dialect::ALL,
-    ),
-    ("0 = book bad", &Dialect::ALL),
+/// The rows of what has no letter: the book, and every line that is no command of the dialect.
+const BOOK: &str = "book.txt";
+const NONE: &str = "none";
+
+/// Each command's letter, the first words of its answers, and the programs that must have given
+/// all of them in a run. No program may give any other; 23 cannot happen.
+const ANSWERS: &[(&str, &str, &[Dialect])] = &[
+    (BOOK, "book 1 2 3 4 5 6 7 bad", &Dialect::ALL),
+    ("I", "0 8 9 10", &Dialect::ALL),
+    ("D", "0 8 9 11", &Dialect::ALL),
+    ("H", "= 8 9", &Dialect::ALL),
+    ("S", "0 12 13 14 15 16 17 18 19 20 21 22", &Dialect::ALL),
+    (NONE, "bad", &Dialect::ALL),
 ];
 
 /// How often one program gave each answer.
 pub struct Tally {
     dialect: Dialect,
-    /// By first word.
-    answers: BTreeMap<String, u64>,
-    settled: u64,
+    /// By the command and the answer's first word.
+    answers: BTreeMap<(String, String), u64>,
 }
 
 impl Tally {
@@ -29,61 +33,73 @@ impl Tally {
         Tally {
             dialect,
             answers: BTreeMap::new(),
-            settled: 0,
         }
     }
 
     pub fn add(&mut self, transcript: &Transcript, output: &[u8]) {
-        for (answer, command) in lines(output).zip(commands(transcript)) {
-            let word = answer.split(|&byte| byte == b' ').next();
-            let word = String::from_utf8_lossy(word.unwrap_or_default());
-            *self.answers.entry(word.into_owned()).or_default() += 1;
-            if answer == b"0 0" && command.starts_with(b"S") {
-                self.settled += 1;
-            }
+        let mut answers = lines(output).map(first_word);
+        if let Some(word) = answers.next() {
+            self.count(BOOK.as_bytes(), word);
+        }
+        for (word, line) in answers.zip(lines(&transcript.input)) {
+            let command = match word {
+                b"bad" => NONE.as_bytes(),
+                _ => line.get(..1).unwrap_or_default(),
+            };
+            self.count(command, word);
         }
     }
 
-    fn of(&self, word: &str) -> u64 {
-        self.answers.get(word).copied().unwrap_or(0)
+    fn count(&mut self, command: &[u8], word: &[u8]) {
+        let text = |bytes| String::from_utf8_lossy(bytes).into_owned();
+        let answer = (text(command), text(word));
+        *self.answers.entry(answer).or_default() += 1;
+    }
+
+    fn of(&self, command: &str, word: &str) -> u64 {
+        let answer = (command.into(), word.into());
+        self.answers.get(&answer).copied().unwrap_or(0)
     }
 
     /// What a run that agreed still left untried, or showed that cannot be.
     pub fn complaint(&self) -> Option<String> {
         let name = self.dialect.name();
-        let due: Vec<&str> = words()
-            .filter(|(_, dialects)| dialects.contains(&self.dialect))
-            .map(|(word, _)| word)
+        let due: Vec<_> = answers()
+            .filter(|(_, _, dialects)| dialects.contains(&self.dialect))
+            .map(|(command, word, _)| (command, word))
             .collect();
-        if let Some(word) = due.iter().find(|word| self.of(word) == 0) {
-            return Some(format!("{name} never answered {word}"));
+        let mut untried = due
+            .iter()
+            .filter(|(command, word)| self.of(command, word) == 0);
+        if let Some((command, word)) = untried.next() {
+            return Some(format!("{name} never answered {word} to {command}"));
         }
         let mut given = self.answers.keys();
-        let other = given.find(|word| !due.contains(&word.as_str()))?;
-        Some(format!("{name} cannot answer {other}, and did"))
+        let (command, word) = given.find(|(command, word)| !due.contains(&(command, word)))?;
+        Some(format!("{name} cannot answer {word} to {command}, and did"))
     }
 }
 
-/// A row for each answer, with a column for each program.
+/// A row for each answer of a command, with a column for each program.
 pub fn table(tallies: &[Tally]) -> String {
     let mut table = String::new();
-    let mut row = |about: &str, cell: &dyn Fn(&Tally) -> String| {
-        let _ = write!(table, "{about:>7}");
+    let mut row = |command: &str, word: &str, cell: &dyn Fn(&Tally) -> String| {
+        let _ = write!(table, "{command:<8} {word:>4}");
         for tally in tallies {
             let _ = write!(table, " {:>9}", cell(tally));
         }
         table.push('\n');
     };
-    row("", &|tally| tally.dialect.name().into());
-    for (word, _) in words() {
-        row(word, &|tally| tally.of(word).to_string());
+    row("", "", &|tally| tally.dialect.name().into());
+    for (command, word, _) in answers() {
+        row(command, word, &|tally| tally.of(command, word).to_string());
     }
-    row("settled", &|tally| tally.settled.to_string());
     table
 }
 
-fn words() -> impl Iterator<Item = (&'static str, &'static [Dialect])> {
-    ANSWERS
-        .into_iter()
-        .flat_map(|(words, dialects)| words.split(' ').map(move |word| (word, dialects)))
+/// Each answer of the rows by itself.
+fn answers() -> impl Iterator<Item = (&'static str, &'static str, &'static [Dialect])> {
+    ANSWERS.iter().flat_map(|&(command, words, dialects)| {
+        words.split(' ').map(move |word| (command, word, dialects))
+    })
 }
