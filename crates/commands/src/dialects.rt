@@ -51,7 +51,7 @@ fn admits(dialect: Dialect, line: &[u8]) -> bool
     dialect.full | is_scope_letter(ascii::byte(line, 0))
 }
 
-// What a line commands in a dialect, for any bytes: a command that the dialect does not have is ill-formed.
+// What a line commands in a dialect, for any bytes: a line that is too long is ill-formed, and a command that the dialect does not have.
 pub fn read_in(dialect: Dialect, line: &[u8]) -> Command
     ensures { λ r. ⌜ ReadAs (now (line .entry)) (commandIn dialect (now (line .entry))) r ⌝ }
 {

@@ -42,7 +42,7 @@ fn answer_line<'a>(
     buffers::put(&reply, n, out, at)
 }
 
-// The lines that begin and end in a block, read where they are: only what has no LF has to be kept.
+// The lines of a block that begins with a line, read where they are: only what has no LF has to be kept.
 fn answer_lines<'a>(
     dialect: Dialect,
     cards: &'a CardTable,
@@ -67,7 +67,8 @@ fn answer_lines<'a>(
     Lines { rest: at, next }
 }
 
-// The line that was begun before the block, then the lines in it; what has no LF is kept. A byte of the block prints one answer at most.
+// The first line, put into the buffer after what was kept of it, then the others where they are; what has no LF is kept. A byte of the block
+// prints one answer at most.
 pub(crate) fn answer_block<'a>(
     dialect: Dialect,
     cards: &'a CardTable,

@@ -69,11 +69,21 @@ impl Program {
     }
 
     pub fn start(&self, book: &BookFile) -> io::Result<Process> {
+        self.start_between(book, Stdio::piped(), Stdio::piped())
+    }
+
+    /// Starts the program with these for its standard input and output.
+    pub fn start_between(
+        &self,
+        book: &BookFile,
+        input: Stdio,
+        output: Stdio,
+    ) -> io::Result<Process> {
         let folder = Folder::new(book)?;
         let child = Command::new(&self.path)
             .current_dir(&folder.0)
-            .stdin(Stdio::piped())
-            .stdout(Stdio::piped())
+            .stdin(input)
+            .stdout(output)
             .spawn()?;
         Ok(Process {
             child,
@@ -117,7 +127,7 @@ impl Program {
     }
 }
 
-/// A started program with pipes at both ends, ended when it is dropped.
+/// A started program, ended when it is dropped.
 pub struct Process {
     child: Child,
     _folder: Folder,

@@ -1,5 +1,5 @@
 //! Talks with each program over pipes, one command at a time, and expects every answer before the
-//! next command is written.
+//! next command is written. Then its input fails, and its output.
 
 #![forbid(unsafe_code)]
 
@@ -7,8 +7,10 @@ use reference::commands::{Dialect, Session};
 use reference::generate::{long_settlement, BookFile};
 use reference::program::{shown, Program, PATIENCE};
 use reference::ring;
-use std::io::{BufRead, BufReader, Write};
-use std::process::ExitCode;
+use std::io::{self, BufRead, BufReader, Read, Write};
+use std::os::fd::OwnedFd;
+use std::os::unix::net::UnixStream;
+use std::process::{ExitCode, Stdio};
 use std::sync::mpsc::{self, Receiver};
 use std::thread;
 use std::time::Duration;
@@ -23,7 +25,7 @@ fn main() -> ExitCode {
         return ExitCode::from(2);
     }
     for path in &paths {
-        match Program::at(path).and_then(|program| converse(&program)) {
+        match Program::at(path).and_then(|program| talk(&program)) {
             Ok(answers) => println!("{path}: {answers} answers, each in time"),
             Err(complaint) => {
                 println!("{path}: {complaint}");
@@ -32,6 +34,13 @@ fn main() -> ExitCode {
         }
     }
     ExitCode::SUCCESS
+}
+
+fn talk(program: &Program) -> Result<usize, String> {
+    let answers = converse(program)?;
+    fail_to_read(program).map_err(|error| format!("input that fails: {error}"))?;
+    fail_to_write(program).map_err(|error| format!("output that fails: {error}"))?;
+    Ok(answers)
 }
 
 fn converse(program: &Program) -> Result<usize, String> {
@@ -71,6 +80,43 @@ fn converse(program: &Program) -> Result<usize, String> {
         Ok(status) => Err(format!("no clean end: {status}")),
         Err(error) => Err(format!("no end: {error}")),
     }
+}
+
+/// A read fails in the middle of a line: what came of the line is not answered.
+fn fail_to_read(program: &Program) -> io::Result<()> {
+    let (mut ours, theirs) = failing_socket()?;
+    ours.write_all(b"H 1 1\nI 1 1 2")?;
+    let book = BookFile::Text(ring::BOOK.into());
+    let mut process = program.start_between(&book, theirs, Stdio::piped())?;
+    let mut answers = String::new();
+    process.output().read_to_string(&mut answers)?;
+    match answers.as_str() {
+        "book 3 8\n= 0\n" => Ok(()),
+        _ => Err(io::Error::other(answers)),
+    }
+}
+
+/// A write fails: the program ends though there is more input.
+fn fail_to_write(program: &Program) -> io::Result<()> {
+    let (_ours, theirs) = failing_socket()?;
+    let book = BookFile::Text(ring::BOOK.into());
+    let mut process = program.start_between(&book, Stdio::piped(), theirs)?;
+    let mut input = process.input();
+    // More answers than the socket holds, since nobody reads them. The program may end meanwhile.
+    let _ = input.write_all(&b"H 1 1\n".repeat(1 << 20));
+    let status = process.end()?;
+    drop(input);
+    match status.success() {
+        true => Ok(()),
+        false => Err(io::Error::other(status.to_string())),
+    }
+}
+
+/// Our end of a socket, and a program's: there a call that would have to wait fails.
+fn failing_socket() -> io::Result<(UnixStream, Stdio)> {
+    let (ours, theirs) = UnixStream::pair()?;
+    theirs.set_nonblocking(true)?;
+    Ok((ours, OwnedFd::from(theirs).into()))
 }
 
 /// Lines, and where each of them is cut; those that are not are cut at their end.
