@@ -43,8 +43,12 @@ fn talk(program: &Program) -> Result<usize, String> {
     Ok(answers)
 }
 
+fn ring_book() -> BookFile {
+    BookFile::Text(ring::BOOK.into())
+}
+
 fn converse(program: &Program) -> Result<usize, String> {
-    let book = BookFile::Text(ring::BOOK.into());
+    let book = ring_book();
     let mut process = program.start(&book).map_err(|error| error.to_string())?;
     let mut input = process.input();
     let answers = watch(process.output());
@@ -86,10 +90,11 @@ fn converse(program: &Program) -> Result<usize, String> {
 fn fail_to_read(program: &Program) -> io::Result<()> {
     let (mut ours, theirs) = failing_socket()?;
     ours.write_all(b"H 1 1\nI 1 1 2")?;
-    let book = BookFile::Text(ring::BOOK.into());
-    let mut process = program.start_between(&book, theirs, Stdio::piped())?;
+    let mut process = program.start_between(&ring_book(), theirs, Stdio::piped())?;
+    let mut output = process.output();
+    process.end()?;
     let mut answers = String::new();
-    process.output().read_to_string(&mut answers)?;
+    output.read_to_string(&mut answers)?;
     match answers.as_str() {
         "book 3 8\n= 0\n" => Ok(()),
         _ => Err(io::Error::other(answers)),
@@ -99,13 +104,16 @@ fn fail_to_read(program: &Program) -> io::Result<()> {
 /// A write fails: the program ends though there is more input.
 fn fail_to_write(program: &Program) -> io::Result<()> {
     let (_ours, theirs) = failing_socket()?;
-    let book = BookFile::Text(ring::BOOK.into());
-    let mut process = program.start_between(&book, Stdio::piped(), theirs)?;
+    let mut process = program.start_between(&ring_book(), Stdio::piped(), theirs)?;
     let mut input = process.input();
-    // More answers than the socket holds, since nobody reads them. The program may end meanwhile.
-    let _ = input.write_all(&b"H 1 1\n".repeat(1 << 20));
+    // More answers than the socket holds, since nobody reads them. The program ends meanwhile, or
+    // is ended; its input stays open until then.
+    let writer = thread::spawn(move || {
+        let _ = input.write_all(&b"H 1 1\n".repeat(1 << 20));
+        input
+    });
     let status = process.end()?;
-    drop(input);
+    drop(writer.join());
     match status.success() {
         true => Ok(()),
         false => Err(io::Error::other(status.to_string())),
