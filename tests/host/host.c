@@ -111,12 +111,23 @@ static void settled(const char *name) {
     check(name, THAWCROFT_DONE, after);
 }
 
+static void add(const char *line) {
+    size_t length = strlen(line);
+    memcpy(call.text + call.text_length, line, length);
+    call.text_length += length;
+}
+
 /* ---- settled */
 
 static void settles(void) {
     ring();
     settled("the ring");
     refused("the ring again: the tokens are gone", THAWCROFT_NOT_COVERED);
+    ring();
+    call.text_length = 0;
+    add("C 7000-5600-0016\n");
+    add(BOOK + strlen("C 700056000016\n"));
+    settled("the ring, its first card as it is printed");
     ring();
     hold(3, 1, SUM_LIMIT - 2);
     settled("a kind's sum of 1,000,000,000");
@@ -129,12 +140,6 @@ static void text(const char *name, const char *lines, uint32_t number) {
     call.text_length = strlen(lines);
     memcpy(call.text, lines, call.text_length);
     refused(name, number);
-}
-
-static void add(const char *line) {
-    size_t length = strlen(line);
-    memcpy(call.text + call.text_length, line, length);
-    call.text_length += length;
 }
 
 /* A card line of 12 digits, the 10th and 11th those of n, with its check digit. */
@@ -179,10 +184,13 @@ static void texts(void) {
     call.text_length = 16384;
     refused("16,384 bytes, the last line without its LF", THAWCROFT_NO_FORM);
     text("two spaces", "C  700012000019\n", THAWCROFT_NO_FORM);
+    text("a hyphen doubled", "C 7000--1200-0019\n", THAWCROFT_NO_FORM);
     cards("32 cards: the exchange is asked next", 32, THAWCROFT_EXCHANGE_SIZE);
     cards("33 cards", 33, THAWCROFT_TOO_MANY_CARDS);
     text("a wrong check digit", "C 700012000018\n", THAWCROFT_BAD_CARD_NUMBER);
+    text("a wrong check digit in printed groups", "C 7000-1200-0018\n", THAWCROFT_BAD_CARD_NUMBER);
     text("a card twice", "C 700012000019\nC 700012000019\n", THAWCROFT_CARD_REPEATED);
+    text("a card, then the same as it is printed", "C 700012000019\nC 7000-1200-0019\n", THAWCROFT_CARD_REPEATED);
     text("a group before its card", "G 1 1\nC 700012000019\n", THAWCROFT_CARD_NOT_ABOVE);
     rules("56 rules: the exchange is asked next", 56, THAWCROFT_EXCHANGE_SIZE);
     rules("57 rules", 57, THAWCROFT_TOO_MANY_RULES);

@@ -1,57 +1,63 @@
--- Loops over the bytes of a card number: each turn has the digit of one byte.
+-- Loops over the bytes of a card number: whether they are in printed groups, and the digits among them, in a row; and over the row.
 use mathlib.Core.Path.{_≡_, refl, sym, _∙_, ap}
-use mathlib.Core.Bool.{Bool, true, false, _&&_}
-use mathlib.Core.List.{List, [], _∷_, map}
+use mathlib.Core.Bool.{Bool, true, false, not, _&&_, _||_, cond}
+use mathlib.Core.List.{List, [], _∷_, _++_, append-nil}
 use mathlib.Core.Logic.{⊎-elim}
-use Prim.Native.Nat.{ℕ, zero, suc, _+_, _-_, _≤_, _<_, min}
+use Prim.Native.Nat.{ℕ, suc, _+_, _-_, _≤_, _<_}
 use native.Mathlib.Omega.{arith}
 use native.Mathlib.Numerals.{add-one}
 use native.Mathlib.Nat.{eq-or-lt-of-le}
-use lib.Dec.{eqb, leb, ltb}
-use lib.ListN.{length, getD, set, take, drop, replicate, length-drop, length-set, length-take, List·getD-eq-default}
-use lib.Seq.{drop-cons, drop-length, take-all, getD-take, getD-set-same, getD-set-other, length-take-le, ext-getD}
-use borrow.Author.Tests.{le-leb, lt-leb, leb-true, leb-false, ltb-true, ltb-false, eqb-true, eqb-false}
+use lib.Dec.{eqb, leb}
+use lib.ListN.{length, getD, set, take, drop, replicate, length-append, length-drop, length-set, drop-of-length-le, List·getD-append, List·getD-eq-default}
+use lib.Seq.{drop-cons, drop-length, take-suc, take-length, getD-take, getD-append-seam, getD-set-same, getD-set-other, length-take-le, ext-getD}
+use borrow.Author.Tests.{leb-true}
 use Rattle.model.specs.Limits.{leastDigits, mostDigits}
-use Rattle.model.specs.Lists.{every}
+use Rattle.model.specs.Lists.{oneIf, each}
 use Rattle.model.specs.CardNumbers.{weighed, luhnSum}
-use Rattle.model.specs.Reader.{digitOf}
-use Rattle.model.specs.Opening.{isCardNumber}
-use Rattle.model.proofs.Tests.{and-false-right}
-use Rattle.model.proofs.Places.{all-equal, upTo-length, upTo-at}
-use Rattle.forms.specs.Numbers.{inRow, digitsIn, isNumberIn}
+use Rattle.model.specs.Reader.{digitOf, isDigit, isHyphen, inPrintedGroups, spaceAt, isCardLine, cardGroups}
+use Rattle.model.specs.Opening.{cardDigits, isCardNumber}
+use Rattle.model.proofs.Tests.{eq-T, both-true, and-false-right, lt-or-ge}
+use Rattle.model.proofs.Places.{upTo-length, upTo-at}
+use Rattle.model.proofs.Words.{each-append}
+use Rattle.model.proofs.PrintedGroups.{digitsAt, digits-among, some-digit}
+use Rattle.forms.specs.Numbers.{inRow, lineDigits, digitsIn, isNumberIn}
+use Rattle.forms.specs.inner.Words.{wordDigits}
+use Rattle.forms.specs.declared.cards.CardNumber.{CardNumber}
 
--- a turn at byte i, whose digit is d
-pub record AtByte (s : List ℕ) (i d : ℕ) : Type 0 where
-  pub within : i < length s
-  pub digit : d ≡ digitOf (getD s i 0)
+-- ---- whether bytes are in printed groups: those before i are, and `before` tells how many digits the last of them is
 
-digit-there : (s : List ℕ) (i : ℕ) → i < length s → getD (map digitOf s) i 0 ≡ digitOf (getD s i 0)
-digit-there [] i l = absurd (omega arith)
-digit-there (x ∷ s) zero l = refl
-digit-there (x ∷ s) (suc i) l = digit-there s i (omega arith)
+-- what a turn asks, with d, h for a digit and a hyphen, and p where the byte before is no digit
+asked : (d p h : Bool) → (d || (not p && h)) ≡ not (eqb (oneIf d) 0 && (p || not h))
+asked true p h = refl
+asked false true h = refl
+asked false false true = refl
+asked false false false = refl
 
-module _ {s : List ℕ} {i d : ℕ} (t : AtByte s i d) where
-  pub digit-at : d ≡ getD (map digitOf s) i 0
-  digit-at = t .digit ∙ sym (digit-there s i (t .within))
+digit-before : (d : Bool) → not (eqb (oneIf d) 0) ≡ d
+digit-before true = refl
+digit-before false = refl
 
-  -- ---- whether all are digits
+module _ (s : List ℕ) (i before : ℕ) (h : inPrintedGroups (not (eqb before 0)) (drop i s) ≡ inPrintedGroups false s) where
+  module _ (l : i < length s) where
+    turn : inPrintedGroups (not (eqb before 0)) (drop i s)
+        ≡ ((isDigit (getD s i 0) || (not (eqb before 0) && isHyphen (getD s i 0))) && inPrintedGroups (isDigit (getD s i 0)) (drop (i + 1) s))
+    unfolding inPrintedGroups
+    turn = rw (add-one i, drop-cons s i 0 l)
 
-  every-drop : (p : ℕ → Bool) → every p (drop i s) ≡ (p (getD s i 0) && every p (drop (i + 1) s))
-  every-drop p = rw (add-one i, drop-cons s i 0 (t .within))
+    placed-if : {b : Bool} → (eqb (oneIf (isDigit (getD s i 0))) 0 && (eqb before 0 || not (isHyphen (getD s i 0)))) ≡ b
+        → (isDigit (getD s i 0) || (not (eqb before 0) && isHyphen (getD s i 0))) ≡ not b
+    placed-if e = asked (isDigit (getD s i 0)) (eqb before 0) (isHyphen (getD s i 0)) ∙ ap not e
 
-  pub not-all : every (λ x. leb (digitOf x) 9) (drop i s) ≡ every (λ x. leb (digitOf x) 9) s → 9 < d → false ≡ every (λ x. leb (digitOf x) 9) s
-  not-all h l =
-      let e : leb (digitOf (getD s i 0)) 9 ≡ false = lt-leb _ _ (rw (t .digit) at l) in
-      sym (rw e at (every-drop (λ x. leb (digitOf x) 9))) ∙ h
+    pub misplaced : (eqb (oneIf (isDigit (getD s i 0))) 0 && (eqb before 0 || not (isHyphen (getD s i 0)))) ≡ true → inPrintedGroups false s ≡ false
+    misplaced e = sym h ∙ turn ∙ rw (placed-if e)
 
-  pub all-so-far : every (λ x. leb (digitOf x) 9) (drop i s) ≡ every (λ x. leb (digitOf x) 9) s → d ≤ 9
-      → every (λ x. leb (digitOf x) 9) (drop (i + 1) s) ≡ every (λ x. leb (digitOf x) 9) s
-  all-so-far h l =
-      let e : leb (digitOf (getD s i 0)) 9 ≡ true = le-leb _ _ (rw (t .digit) at l) in
-      sym (rw e at (every-drop (λ x. leb (digitOf x) 9))) ∙ h
+    pub placed : (eqb (oneIf (isDigit (getD s i 0))) 0 && (eqb before 0 || not (isHyphen (getD s i 0)))) ≡ false
+        → inPrintedGroups (not (eqb (oneIf (isDigit (getD s i 0))) 0)) (drop (i + 1) s) ≡ inPrintedGroups false s
+    placed e = rw (digit-before (isDigit (getD s i 0))) (sym (rw (placed-if e) at turn) ∙ h)
 
-pub all-digits : (s : List ℕ) (i : ℕ) (p : ℕ → Bool) → i ≡ length s → every p (drop i s) ≡ every p s → true ≡ every p s
-all-digits s i p e h = rw (e, drop-length s) at h
+  pub all-placed : i ≡ length s → not (eqb before 0) ≡ inPrintedGroups false s
+  unfolding inPrintedGroups
+  all-placed e = rw (e, drop-length s) at h
 
 -- ---- the check sum of the digits ds, of which those before i are summed up
 
@@ -67,47 +73,114 @@ module _ (ds : List ℕ) (i sum : ℕ) (h : sum + luhnSum (drop i ds) ≡ luhnSu
   unfolding luhnSum
   luhn-is e = omega (arith, rw (e, drop-length ds) at h)
 
--- ---- a row that has the first i of the digits ds, and zeros after them
+-- ---- the row of the digits ds
 
-pub record Filled (ds : List ℕ) (i : ℕ) (row : List ℕ) : Type 0 where
-  pub size : length row ≡ mostDigits
-  pub each : (k : ℕ) → k < mostDigits → getD row k 0 ≡ getD (take i ds) k 0
-
-pub filled-none : (ds : List ℕ) → Filled ds 0 (replicate mostDigits 0)
-filled-none ds = record { size = refl; each = λ k l. all-equal {A = ℕ} 0 mostDigits k }
-
--- one digit more is at place i and nowhere else
-take-other : (ds : List ℕ) (i k : ℕ) → (k ≡ i → ⊥) → getD (take i ds) k 0 ≡ getD (take (i + 1) ds) k 0
-take-other ds i k differ = go (ltb k i) refl
-  where
-    go : (x : Bool) → ltb k i ≡ x → getD (take i ds) k 0 ≡ getD (take (i + 1) ds) k 0
-    go true e = let l = ltb-true k i e in getD-take i ds k 0 l ∙ sym (getD-take (i + 1) ds k 0 (omega arith))
-    go false e =
-        let l = ltb-false k i e in
-        let m : i + 1 ≤ k = ⊎-elim (λ (e : i ≡ k). absurd (differ (sym e))) (λ (l : i < k). omega arith) (eq-or-lt-of-le {n = i} {m = k} l) in
-        List·getD-eq-default (take i ds) 0 {n = k} (omega (arith, length-take i ds)) ∙ sym (List·getD-eq-default (take (i + 1) ds) 0 {n = k} (omega (arith, length-take (i + 1) ds)))
-
-module _ {ds row : List ℕ} {i : ℕ} (f : Filled ds i row) where
-  pub filled-more : (d : ℕ) → d ≡ getD ds i 0 → Filled ds (i + 1) (set row i d)
-  filled-more d e = record { size = length-set row i d ∙ f .size; each = λ k l. go k l (eqb k i) refl }
+-- one digit more is at the place after them, if the row has it, and nowhere else
+module _ (ds : List ℕ) (d : ℕ) where
+  added-at : (k : ℕ) → k < mostDigits → getD (set (inRow ds .digits) (length ds) d) k 0 ≡ getD (ds ++ (d ∷ [])) k 0
+  added-at k l = ⊎-elim before (λ m. ⊎-elim here after (eq-or-lt-of-le {n = length ds} {m = k} m)) (lt-or-ge k (length ds))
     where
-      go : (k : ℕ) → k < mostDigits → (x : Bool) → eqb k i ≡ x → getD (set row i d) k 0 ≡ getD (take (i + 1) ds) k 0
-      go k l true p =
-          let q = eqb-true k i p in
-          rw q (getD-set-same row i d 0 (omega (arith, f .size)) ∙ e ∙ sym (getD-take (i + 1) ds i 0 (omega arith)))
-      go k l false p = let q = eqb-false k i p in getD-set-other row i k d 0 q ∙ f .each k l ∙ take-other ds i k q
+      row : (k : ℕ) → k < mostDigits → getD (inRow ds .digits) k 0 ≡ getD ds k 0
+      row k l = upTo-at (λ j. getD ds j 0) mostDigits k 0 l
 
-  pub filled-all : i ≡ min (length ds) mostDigits → row ≡ inRow ds .digits
-  filled-all e =
-      ext-getD 0 row (inRow ds .digits) (f .size ∙ sym (upTo-length (λ d. getD ds d 0) mostDigits))
-      (λ k l. let m : k < mostDigits = omega (arith, f .size) in f .each k m ∙ all k m ∙ sym (upTo-at (λ d. getD ds d 0) mostDigits k 0 m))
+      before : k < length ds → getD (set (inRow ds .digits) (length ds) d) k 0 ≡ getD (ds ++ (d ∷ [])) k 0
+      before m =
+          getD-set-other (inRow ds .digits) (length ds) k d 0 (λ e. omega arith)
+          ∙ row k l ∙ sym (List·getD-append ds (d ∷ []) 0 k m)
+
+      here : length ds ≡ k → getD (set (inRow ds .digits) (length ds) d) k 0 ≡ getD (ds ++ (d ∷ [])) k 0
+      here e = rw (← e) (getD-set-same (inRow ds .digits) (length ds) d 0 (omega (arith, upTo-length (λ j. getD ds j 0) mostDigits)) ∙ sym (getD-append-seam ds d [] 0))
+
+      after : length ds < k → getD (set (inRow ds .digits) (length ds) d) k 0 ≡ getD (ds ++ (d ∷ [])) k 0
+      after m =
+          getD-set-other (inRow ds .digits) (length ds) k d 0 (λ e. omega arith)
+          ∙ row k l
+          ∙ List·getD-eq-default ds 0 {n = k} (omega arith)
+          ∙ sym (List·getD-eq-default (ds ++ (d ∷ [])) 0 {n = k} (omega (arith, length-append ds (d ∷ []))))
+
+  pub row-more : set (inRow ds .digits) (length ds) d ≡ inRow (ds ++ (d ∷ [])) .digits
+  row-more =
+      let e : ℕ → ℕ = λ k. getD (ds ++ (d ∷ [])) k 0 in
+      let size = length-set (inRow ds .digits) (length ds) d ∙ upTo-length (λ j. getD ds j 0) mostDigits in
+      ext-getD 0 (set (inRow ds .digits) (length ds) d) (inRow (ds ++ (d ∷ [])) .digits) (size ∙ sym (upTo-length e mostDigits))
+      (λ k l. added-at k (omega (arith, size)) ∙ sym (upTo-at e mostDigits k 0 (omega (arith, size))))
+
+-- the digits among the first i bytes, counted and in a row
+pub record Taken (s : List ℕ) (i count : ℕ) (row : List ℕ) : Type 0 where
+  pub counted : count ≡ length (each digitsAt (take i s))
+  pub placed-in : row ≡ inRow (each digitsAt (take i s)) .digits
+  pub few : count ≤ i
+
+pub taken-none : (s : List ℕ) → Taken s 0 0 (replicate mostDigits 0)
+taken-none s = record { counted = refl; placed-in = refl; few = omega arith }
+
+module _ {s : List ℕ} {i count : ℕ} {row : List ℕ} (t : Taken s i count row) where
+  pub taken-size : length row ≡ mostDigits
+  taken-size = ap length (t .placed-in) ∙ upTo-length (λ d. getD (each digitsAt (take i s)) d 0) mostDigits
+
+  -- a byte more, which is n digits and leaves the row so
+  pub taken-more : (n : ℕ) (row′ : List ℕ) → i < length s → let x = getD s i 0 in
+      n ≡ oneIf (isDigit x) → row′ ≡ cond (isDigit x) (set row count (digitOf x)) row → Taken s (i + 1) (count + n) row′
+  taken-more n row′ l p q = rw (p, q) (go (isDigit x) refl)
     where
-      all : (k : ℕ) → k < mostDigits → getD (take i ds) k 0 ≡ getD ds k 0
-      all k m = go (leb (length ds) i) refl
-        where
-          go : (x : Bool) → leb (length ds) i ≡ x → getD (take i ds) k 0 ≡ getD ds k 0
-          go true p = rw (take-all i ds (leb-true (length ds) i p))
-          go false p = getD-take i ds k 0 (omega (arith, leb-false (length ds) i p))
+      x : ℕ
+      x = getD s i 0
+
+      ds : List ℕ
+      ds = each digitsAt (take i s)
+
+      one-byte : each digitsAt (take (i + 1) s) ≡ ds ++ (digitsAt x ++ [])
+      one-byte = rw (add-one i, take-suc s i 0 l) (each-append digitsAt (take i s) (x ∷ []))
+
+      go : (d : Bool) → isDigit x ≡ d → Taken s (i + 1) (count + oneIf d) (cond d (set row count (digitOf x)) row)
+      go true e =
+          let more : each digitsAt (take (i + 1) s) ≡ ds ++ (digitOf x ∷ []) = one-byte ∙ rw e in
+          record {
+            counted = rw more (omega (arith, t .counted, length-append ds (digitOf x ∷ [])));
+            placed-in = rw (more, t .placed-in, t .counted) (row-more ds (digitOf x));
+            few = omega (arith, t .few);
+          }
+      go false e =
+          let same : each digitsAt (take (i + 1) s) ≡ ds = one-byte ∙ rw (e, append-nil ds) in
+          record { counted = rw same (omega (arith, t .counted)); placed-in = rw same (t .placed-in); few = omega (arith, t .few) }
+
+  pub taken-all : i ≡ length s → inPrintedGroups false s ≡ true → _≡_ {A = CardNumber} (record { count = count; digits = row }) (inRow (wordDigits s))
+  taken-all e f =
+      let all : each digitsAt (take i s) ≡ wordDigits s = rw (e, take-length s, f) (sym (digits-among s)) in
+      λ j. record { count = (t .counted ∙ ap length all) j; digits = (t .placed-in ∙ ap (λ (ds : List ℕ). inRow ds .digits) all) j }
+
+-- ---- a line's digits: by what follows its space, and whether there are any
+
+module _ (w : List ℕ) where
+  pub none-short : length w ≤ 2 → lineDigits w ≡ []
+  unfolding isCardLine inPrintedGroups
+  none-short l = rw (drop-of-length-le w {i = 2} l, and-false-right (spaceAt w 1))
+
+  pub none-unspaced : spaceAt w 1 ≡ false → lineDigits w ≡ []
+  unfolding isCardLine
+  none-unspaced e = rw e
+
+  pub digits-after : spaceAt w 1 ≡ true → lineDigits w ≡ wordDigits (drop 2 w)
+  unfolding isCardLine cardGroups
+  digits-after e = rw e
+
+  pub no-card-line : length (lineDigits w) ≡ 0 → isCardLine w ≡ false
+  unfolding isCardLine cardGroups
+  no-card-line e = go (isCardLine w) refl e
+    where
+      some : isCardLine w ≡ true → 1 ≤ length (cardDigits (cardGroups w))
+      some f = some-digit (drop 2 w) (eq-T (both-true (spaceAt w 1) (inPrintedGroups false (drop 2 w)) f .1))
+
+      go : (x : Bool) → isCardLine w ≡ x → length (cond x (cardDigits (cardGroups w)) []) ≡ 0 → isCardLine w ≡ false
+      go true f z = absurd (omega (arith, some f))
+      go false f z = f
+
+  pub card-line : (length (lineDigits w) ≡ 0 → ⊥) → isCardLine w ≡ true
+  card-line n = go (isCardLine w) refl n
+    where
+      go : (x : Bool) → isCardLine w ≡ x → (length (cond x (cardDigits (cardGroups w)) []) ≡ 0 → ⊥) → isCardLine w ≡ true
+      go true f m = f
+      go false f m = absurd (m refl)
 
 -- ---- the digits of a row
 

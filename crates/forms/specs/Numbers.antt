@@ -1,13 +1,18 @@
 -- Card numbers as the program holds them.
-use mathlib.Core.Bool.{Bool, _&&_}
-use mathlib.Core.List.{List}
+use mathlib.Core.Bool.{Bool, _&&_, cond}
+use mathlib.Core.List.{List, []}
 use Prim.Native.Nat.{ℕ}
 use lib.Dec.{leb}
 use lib.ListN.{length, getD, take}
 use Rattle.model.specs.Limits.{mostDigits}
 use Rattle.model.specs.Lists.{upTo}
-use Rattle.model.specs.Opening.{isCardNumber}
+use Rattle.model.specs.Reader.{isCardLine, cardGroups}
+use Rattle.model.specs.Opening.{cardDigits, isCardNumber}
 use Rattle.forms.specs.declared.cards.CardNumber.{CardNumber}
+
+-- a card line's digits, of which there is one at least, and none of another line
+abbrev pub lineDigits : List ℕ → List ℕ
+lineDigits w = cond (isCardLine w) (cardDigits (cardGroups w)) []
 
 -- the number of these digits: how many there are, and the first 19, zeros after the last
 abbrev pub inRow : List ℕ → CardNumber

@@ -1,15 +1,17 @@
-// Card lines, `C digits`, and card numbers.
+// Card lines, `C digits` with a hyphen between two printed groups of digits, and card numbers.
 use crate::LEAST_DIGITS;
 use crate::MOST_DIGITS;
 ghost use mathlib.Core.Path.{_≡_};
-ghost use mathlib.Core.List.{map};
+ghost use mathlib.Core.Bool.{cond};
+ghost use mathlib.Core.List.{[]};
 ghost use Prim.Native.Nat.{_≤_};
-ghost use lib.Dec.{leb};
+ghost use lib.ListN.{length, set};
 ghost use Rattle.model.specs.Limits.{mostDigits};
-ghost use Rattle.model.specs.Lists.{every};
+ghost use Rattle.model.specs.Lists.{oneIf};
 ghost use Rattle.model.specs.CardNumbers.{weighed, luhn};
-ghost use Rattle.model.specs.Reader.{digitOf, isCardLine};
-ghost use Rattle.forms.specs.Numbers.{inRow, digitsIn, isNumberIn};
+ghost use Rattle.model.specs.Reader.{digitOf, isDigit};
+ghost use Rattle.forms.specs.Numbers.{inRow, lineDigits, digitsIn, isNumberIn};
+ghost use Rattle.forms.specs.inner.Words.{wordDigits};
 
 // A card number: how many digits it has, and the first 19 of them, zeros after the last.
 pub struct CardNumber {
@@ -17,40 +19,64 @@ pub struct CardNumber {
     pub digits: [u8; 19],
 }
 
-fn all_digits(s: &[u8]) -> bool
-    ensures { λ r. ⌜ r ≡ every (λ x. leb (digitOf x) 9) (now (s .entry)) ⌝ }
+fn no_digits() -> CardNumber
+    ensures { λ r. ⌜ r ≡ inRow [] ⌝ }
 {
-    for i in 0..s.len() {
-        if 9 < ascii::digit(s[i]) {
-            return false;
-        }
+    CardNumber {
+        count: 0,
+        digits: [0; 19],
     }
-    true
 }
 
-pub fn is_card_line(line: &[u8]) -> bool
-    ensures { λ r. ⌜ r ≡ isCardLine (now (line .entry)) ⌝ }
+// A byte into the row, if it is a digit and the row reaches so far; how many digits it is.
+fn put_digit(digits: &mut [u8; 19], at: usize, x: u8) -> usize
+    requires { ⌜ length (now digits) ≡ mostDigits ⌝ }
+    ensures { λ r. ⌜ (r ≡ oneIf (isDigit x)) × (now (digits .exit) ≡ cond (isDigit x) (set (now (digits .entry)) at (digitOf x)) (now (digits .entry))) ⌝ }
 {
-    if line.len() <= 2 {
-        return false;
+    let d = ascii::digit(x);
+    if 9 < d {
+        return 0;
     }
-    let spaced = ascii::byte(line, 1) == b' ';
-    spaced & all_digits(&line[2..])
+    if at < MOST_DIGITS {
+        digits[at] = d;
+    }
+    1
 }
 
-// The number that a card line's digits are. Each byte is converted once: questions 4 and 5 are asked of the row.
-pub fn card_number(s: &[u8]) -> CardNumber
-    ensures { λ r. ⌜ r ≡ inRow (map digitOf (now (s .entry))) ⌝ }
+// The digits of bytes that are digits, or hyphens between two of them.
+fn word_number(s: &[u8]) -> CardNumber
+    ensures { λ r. ⌜ r ≡ inRow (wordDigits (now (s .entry))) ⌝ }
 {
     let mut digits = [0; 19];
-    let n = limits::least(s.len(), MOST_DIGITS);
-    for i in 0..n {
-        digits[i] = ascii::digit(s[i]);
+    let mut count = 0;
+    // How many digits the byte before is.
+    let mut before = 0;
+    for i in 0..s.len() {
+        let x = s[i];
+        let taken = put_digit(&mut digits, count, x);
+        if (taken == 0) & ((before == 0) | (x != b'-')) {
+            return no_digits();
+        }
+        before = taken;
+        count += taken;
     }
-    CardNumber {
-        count: s.len(),
-        digits,
+    if before == 0 {
+        return no_digits();
     }
+    CardNumber { count, digits }
+}
+
+// A card line's number, of which questions 4 and 5 are asked; a line that is no card line has a number without digits.
+pub fn card_number(line: &[u8]) -> CardNumber
+    ensures { λ r. ⌜ r ≡ inRow (lineDigits (now (line .entry))) ⌝ }
+{
+    if line.len() <= 2 {
+        return no_digits();
+    }
+    if ascii::byte(line, 1) != b' ' {
+        return no_digits();
+    }
+    word_number(&line[2..])
 }
 
 // What a digit counts in the check sum, with so many digits to its right.

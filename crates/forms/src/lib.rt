@@ -5,7 +5,6 @@ mod rules;
 
 pub use cards::CardNumber;
 pub use cards::card_number;
-pub use cards::is_card_line;
 pub use cards::is_card_number;
 pub use groups::is_group_line;
 pub use rules::RuleForm;

@@ -5,11 +5,14 @@ pub mod Questions
 pub mod Letters
 pub mod Bytes
 pub mod Words
+pub mod PrintedGroups
 pub mod Printed
 pub mod ReadLines
 pub mod Lines
+pub mod Absent
 pub mod Cuts
 pub mod Texts
+pub mod Hyphens
 pub mod RuleVariables
 pub mod Counting
 pub mod Loops

@@ -8,12 +8,13 @@ use Rattle.model.specs.Opening.{openedBook}
 use Rattle.model.specs.Fairness.{variables}
 use Rattle.model.specs.Calls.{issue, redeem, settle}
 use Rattle.model.specs.History.{stateAfter, replyAfter}
-use Rattle.model.specs.Theorems.{LinesRead, TextsCut, OpensExactly, RefusedAtFirst, GroupsRepeat, Soundness, Completeness, FairnessDecided, Conservation, EveryHistory, CountingIsPermutation}
+use Rattle.model.specs.Theorems.{LinesRead, TextsCut, OpensExactly, RefusedAtFirst, GroupsRepeat, HyphensAside, Soundness, Completeness, FairnessDecided, Conservation, EveryHistory, CountingIsPermutation}
 use Rattle.model.specs.Swaps.{EverySwap}
 use Rattle.model.proofs.Tests.{every-map}
 use Rattle.model.proofs.Lines as Lines
 use Rattle.model.proofs.Cuts as Cuts
 use Rattle.model.proofs.Texts as Texts
+use Rattle.model.proofs.Hyphens as Hyphens
 use Rattle.model.proofs.RuleVariables.{rule-letters}
 use Rattle.model.proofs.Permutations as Permutations
 use Rattle.model.proofs.Soundness as Sound
@@ -40,6 +41,9 @@ refused-at-first = Texts.refused-at-first
 
 pub groups-repeat : GroupsRepeat
 groups-repeat = Texts.groups-repeat
+
+pub hyphens-aside : HyphensAside
+hyphens-aside = Hyphens.hyphens-aside
 
 -- ---- proofs and fairness
 

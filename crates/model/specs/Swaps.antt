@@ -1,4 +1,5 @@
--- The cases of document 01 that are marked P ("Swaps that tempt"), as the rows of one table, and what each row says.
+-- The cases of document 01 that are marked P ("Swaps that tempt"), and those that document 02 tells of card lines, as the rows of one
+-- table, and what each row says.
 use mathlib.Core.Path.{_≡_}
 use mathlib.Core.Bool.{true, false}
 use mathlib.Core.List.{List, [], _∷_, _++_, map}
@@ -127,7 +128,12 @@ table =
     judged (giving 1 A 2 ∷ []) (proofRecord 0 1 1 2 1) 18 1 ∷
     -- P11, P12
     opensEmpty [] ∷
-    opensNot (lines ("C 700012000019" ∷ "C 700012000019" ∷ [])) 5 2 ∷ []
+    opensNot (lines ("C 700012000019" ∷ "C 700012000019" ∷ [])) 5 2 ∷
+    -- 02: the same card in printed groups; a leading, a trailing, a doubled hyphen
+    opensNot (lines ("C 700012000019" ∷ "C 7000-1200-0019" ∷ [])) 5 2 ∷
+    opensNot (lines ("C -700012000019" ∷ [])) 2 1 ∷
+    opensNot (lines ("C 700012000019-" ∷ [])) 2 1 ∷
+    opensNot (lines ("C 7000--12000019" ∷ [])) 2 1 ∷ []
 
 abbrev pub EveryRow : Book → List Row → Type 0
 EveryRow b [] = Unit {0}

@@ -1,16 +1,17 @@
 -- What is proved of the definitions, as named statements. `proofs/Theorems.antt` has a proof of each.
 use mathlib.Core.Path.{_≡_}
-use mathlib.Core.Bool.{true}
+use mathlib.Core.Bool.{true, cond}
 use mathlib.Core.Logic.{_↔_, _≢_}
-use mathlib.Core.List.{List, [], _++_, List·Permᴰ}
+use mathlib.Core.List.{List, [], _∷_, _++_, List·Permᴰ}
 use mathlib.Core.Option.{some}
+use Prim.Native.Char.{code}
 use Prim.Native.Nat.{ℕ, _+_, _*_, _≤_, _<_}
-use lib.Dec.{T}
+use lib.Dec.{T, eqb}
 use lib.ListN.{length}
 use Rattle.model.specs.Limits.{textLimit, cardLimit, transferSize, exchangeLimit, recordSize, proofLimit}
 use Rattle.model.specs.Lists.{isByte, every, each, ascii}
 use Rattle.model.specs.Questions.{ok, refused, done}
-use Rattle.model.specs.Grammar.{Line, group, printLine, printText, wellFormed, InGrammar}
+use Rattle.model.specs.Grammar.{Rule, Line, group, rule, printLine, printText, wellFormed, InGrammar}
 use Rattle.model.specs.Reader.{readLine, hasNoLF, cut}
 use Rattle.model.specs.Book.{Book, noBook}
 use Rattle.model.specs.Opening.{withLine, addLine, addLines, opening, openedBook}
@@ -68,6 +69,21 @@ pub record GroupsRepeat : Type 0 where
   pub said : (b : Book) (g m : ℕ) → withLine b (group g m) .member g m ≡ true
   pub stays : (b : Book) (l : Line) (g m : ℕ) → b .member g m ≡ true → withLine b l .member g m ≡ true
   pub repeated : (b : Book) (g m : ℕ) → b .member g m ≡ true → withLine b (group g m) ≡ b
+
+-- ---- Hyphens
+
+-- bytes without hyphens: what the enrolment page stripped
+abbrev pub withoutHyphens : List ℕ → List ℕ
+withoutHyphens t = each (λ x. cond (eqb x (code "-")) [] (x ∷ [])) t
+
+pub record HyphensAside : Type 0 where
+  -- a text's hyphens are those of its card lines: no other line has one
+  pub groups : (g m : ℕ) → withoutHyphens (printLine (group g m)) ≡ printLine (group g m)
+  pub rules : (r : Rule) → withoutHyphens (printLine (rule r)) ≡ printLine (rule r)
+  -- a text that opens, opens without them as the same book
+  pub opens : (t : List ℕ) (b : Book) → opening t ≡ ok b → opening (withoutHyphens t) ≡ ok b
+  -- the other way round up to question 1: a text in the grammar is answered as without them, be it with a refusal and its line
+  pub answers : (t : List ℕ) (lines : List Line) → InGrammar t lines → length t ≤ textLimit → opening t ≡ opening (withoutHyphens t)
 
 -- ---- Proofs and fairness
 

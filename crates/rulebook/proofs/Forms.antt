@@ -1,36 +1,26 @@
 -- What a line's form gives, and what the first question that is not met leaves.
 use mathlib.Core.Path.{_≡_, refl}
 use mathlib.Core.Bool.{Bool, true, false, _&&_, cond}
-use mathlib.Core.List.{List, map}
+use mathlib.Core.List.{List}
 use Prim.Native.Nat.{ℕ, suc, _+_, _*_, _-_, _≤_, _<_}
 use native.Mathlib.Omega.{arith}
 use lib.Dec.{eqb, leb, ltb}
-use lib.ListN.{length, getD, take, drop}
-use borrow.Author.Tests.{lt-ltb, le-ltb, le-leb, lt-leb, ltb-true, leb-true}
+use lib.ListN.{length, getD}
+use borrow.Author.Tests.{lt-ltb, le-ltb, le-leb, lt-leb, leb-true}
 use Rattle.model.specs.Limits.{leastDigits, mostDigits}
 use Rattle.model.specs.Lists.{any, eqList}
 use Rattle.model.specs.Questions.{Question, firstUnmet}
 use Rattle.model.specs.CardNumbers.{luhn}
-use Rattle.model.specs.Reader.{groupOf, digitOf, widthOf, numberOf, numberWidth, numberAt, spaceAt, isCardLine, cardDigits, isGroupLine, hasHead, ownerEnd, ruleEnd, isRuleLine, kindOf, variableOf}
-use Rattle.model.specs.Opening.{isCardNumber}
+use Rattle.model.specs.Reader.{groupOf, digitOf, widthOf, numberOf, numberWidth, numberAt, spaceAt, isCardLine, cardGroups, isGroupLine, hasHead, ownerEnd, ruleEnd, isRuleLine, kindOf, variableOf}
+use Rattle.model.specs.Opening.{cardDigits, isCardNumber}
 use Rattle.model.proofs.Tests.{both-true}
 use Rattle.model.proofs.Places.{upTo-length}
 use Rattle.rulebook.specs.View.{cardCount, ruleCount, cardView, cardsOf}
 use Rattle.rulebook.specs.inner.Rows.{rowOf}
 use Rattle.rulebook.specs.inner.Lines.{AddedUnless, CardTaken, GroupTaken, RuleTaken}
 use Rattle.rulebook.specs.inner.Writes.{CardAdded, MemberAdded, RuleAdded}
-use Rattle.model.proofs.Places.{to-end}
 
 -- ---- what a form gives
-
-pub card-long : (w : List ℕ) → isCardLine w ≡ true → 2 < length w
-unfolding isCardLine
-card-long w h = ltb-true 2 (length w) (both-true (ltb 2 (length w)) _ h .0)
-
--- the digits of a card line, from its bytes as the program takes them
-pub digits-of : (w : List ℕ) → map digitOf (take (length w - 2) (drop 2 w)) ≡ cardDigits w
-unfolding cardDigits
-digits-of w = rw (to-end w 2)
 
 pub number-size : (ds : List ℕ) → isCardNumber ds ≡ true → (leastDigits ≤ length ds) × (length ds ≤ mostDigits)
 number-size ds h =
@@ -112,14 +102,14 @@ module _ {w cards : List ℕ} where
     cards-full l = record { asked = refuses (rw (formed, how-many cards, le-ltb (cardCount cards) 32 l)) (omega arith) }
 
     module _ (room : cardCount cards < 32) where
-      pub card-wrong : isCardNumber (cardDigits w) ≡ false → CardTaken w cards 4 cards
+      pub card-wrong : isCardNumber (cardDigits (cardGroups w)) ≡ false → CardTaken w cards 4 cards
       card-wrong e = record { asked = refuses (rw (formed, how-many cards, lt-ltb (cardCount cards) 32 room, e)) (omega arith) }
 
-      module _ (number : isCardNumber (cardDigits w) ≡ true) where
-        pub card-repeated : any (eqList (cardDigits w)) (cardsOf cards) ≡ true → CardTaken w cards 5 cards
+      module _ (number : isCardNumber (cardDigits (cardGroups w)) ≡ true) where
+        pub card-repeated : any (eqList (cardDigits (cardGroups w))) (cardsOf cards) ≡ true → CardTaken w cards 5 cards
         card-repeated e = record { asked = refuses (rw (formed, how-many cards, lt-ltb (cardCount cards) 32 room, number, e)) (omega arith) }
 
-        pub card-taken : any (eqList (cardDigits w)) (cardsOf cards) ≡ false → {cards′ : List ℕ} → CardAdded (cardDigits w) cards cards′ → CardTaken w cards 0 cards′
+        pub card-taken : any (eqList (cardDigits (cardGroups w))) (cardsOf cards) ≡ false → {cards′ : List ℕ} → CardAdded (cardDigits (cardGroups w)) cards cards′ → CardTaken w cards 0 cards′
         card-taken e a = record { asked = takes (rw (formed, how-many cards, lt-ltb (cardCount cards) 32 room, number, e)) a }
 
 -- ---- a group line

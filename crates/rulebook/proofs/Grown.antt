@@ -12,7 +12,7 @@ use Rattle.model.specs.Limits.{cardLimit, groupCount, leastDigits, mostDigits}
 use Rattle.model.specs.Lists.{within, upTo}
 use Rattle.model.specs.Grammar.{card, group, rule}
 use Rattle.model.specs.Book.{noBook}
-use Rattle.model.specs.Opening.{withLine}
+use Rattle.model.specs.Opening.{cardDigits, withLine}
 use Rattle.model.proofs.Tests.{within-true, and-false-right, or-true-right, or-false-right}
 use Rattle.model.proofs.Places.{upTo-cong, upTo-length, upTo-at, all-equal}
 use Rattle.rulebook.specs.Layout.{cardRowSize, cardTableSize, cardByte, lengthPlace, digitPlace, groupPlace, ruleRowSize, ruleByte, rowAt}
@@ -51,22 +51,23 @@ member-same cards cards′ g m h = go (within g groupCount) (within m cardLimit)
 
 -- ---- a card more
 
-module _ {ds cards cards′ : List ℕ} (a : CardAdded ds cards cards′) (low : leastDigits ≤ length ds) (high : length ds ≤ mostDigits) where
+module _ (gs : List (List ℕ)) {cards cards′ : List ℕ} (a : CardAdded (cardDigits gs) cards cards′)
+    (low : leastDigits ≤ length (cardDigits gs)) (high : length (cardDigits gs) ≤ mostDigits) where
   card-before : (i : ℕ) → i < cardCount cards → cardView cards′ (suc i) ≡ cardView cards (suc i)
   card-before i b = card-as-was cards cards′ (suc i) (λ j l. a .others (suc i) j (omega arith) (omega arith) (λ e m. omega arith))
 
-  card-last : cardView cards′ (suc (cardCount cards)) ≡ ds
+  card-last : cardView cards′ (suc (cardCount cards)) ≡ cardDigits gs
   unfolding cardView
   card-last =
-      let n : max leastDigits (min (length ds) mostDigits) ≡ length ds = omega arith in
-      rw (a .long, n) (listed (digitAt cards′ (suc (cardCount cards))) ds (a .digits))
+      let n : max leastDigits (min (length (cardDigits gs)) mostDigits) ≡ length (cardDigits gs) = omega arith in
+      rw (a .long, n) (listed (digitAt cards′ (suc (cardCount cards))) (cardDigits gs) (a .digits))
 
-  pub card-grown : (rules : List ℕ) → bookOf cards′ rules ≡ withLine (bookOf cards rules) (card ds)
+  pub card-grown : (rules : List ℕ) → bookOf cards′ rules ≡ withLine (bookOf cards rules) (card gs)
   unfolding bookOf
   card-grown rules =
       rw (
         a .count,
-        one-more (λ i. cardView cards (suc i)) (λ i. cardView cards′ (suc i)) (cardCount cards) ds card-before card-last,
+        one-more (λ i. cardView cards (suc i)) (λ i. cardView cards′ (suc i)) (cardCount cards) (cardDigits gs) card-before card-last,
         fun-ext (λ g. fun-ext (λ m. member-same cards cards′ g m (λ p q r. a .others m (groupPlace g) r (omega arith) (λ e l. omega arith)))),
       )
 

@@ -40,13 +40,13 @@ pub(crate) fn take(line: &[u8], cards: &mut CardTable) -> u8
     requires { ⌜ length (now cards) ≡ cardTableSize ⌝ }
     ensures { λ r. ⌜ CardTaken (now (line .entry)) (now (cards .entry)) r (now (cards .exit)) ⌝ }
 {
-    if !forms::is_card_line(line) {
+    let number = forms::card_number(line);
+    if number.count == 0 {
         return answers::NO_FORM;
     }
     if limits::CARD_LIMIT <= layout::card_count(cards) {
         return answers::TOO_MANY_CARDS;
     }
-    let number = forms::card_number(&line[2..]);
     if !forms::is_card_number(number) {
         return answers::BAD_CARD_NUMBER;
     }

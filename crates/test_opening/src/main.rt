@@ -127,6 +127,67 @@ fn cards() {
     );
 }
 
+// Cards as they are printed.
+fn hyphens() {
+    show_all(
+        b"three printed groups:C 7000-1200-0019\n;\
+          one hyphen:C 7-00012000019\n;\
+          12 digits, 11 hyphens:C 7-0-0-0-1-2-0-0-0-0-1-9\n;\
+          19 digits, 18 hyphens:C 7-0-0-0-1-2-0-0-0-0-0-0-0-0-0-0-0-0-8\n;\
+          11 digits in groups:C 7000-1200-008\n;\
+          20 digits in groups:C 7000-1200-0000-0000-0001\n;\
+          wrong check digit in groups:C 7000-1200-0018\n;\
+          in groups after without:C 700012000019\nC 7000-1200-0019\n;\
+          without after in groups:C 7000-1200-0019\nC 700012000019\n;\
+          in other groups:C 7000-1200-0019\nC 70-0012-000019\n;\
+          leading hyphen:C -7000-1200-0019\n;\
+          trailing hyphen:C 7000-1200-0019-\n;\
+          doubled hyphen:C 7000--1200-0019\n;\
+          hyphen alone:C -\n;\
+          two hyphens alone:C --\n;\
+          hyphen before the space:C- 7000-1200-0019\n;\
+          hyphen for the space:C-700012000019\n;\
+          two spaces before groups:C  7000-1200-0019\n;\
+          space in place of a hyphen:C 7000 1200 0019\n;\
+          groups without LF:C 7000-1200-0019;\
+          groups and CR:C 7000-1200-0019\r\n;\
+          hyphen in a group line:C 700012000019\nG 1-1\n;\
+          hyphen after m:C 700012000019\nG 1 1-\n;\
+          hyphen in a rule line:C 700012000019\nR 1-A a\n;\
+          hyphen after a rule:C 700012000019\nR 1 A a-\n;\
+          with a group and a rule:C 7000-1200-0019\nG 1 1\nR 1 A a ? 1 a\n;",
+    );
+}
+
+// The text of what is first, a line so many times, and what is last.
+fn show_repeated(label: &[u8], first: &[u8], line: &[u8], times: usize, last: &[u8]) {
+    let mut buffer = [0u8; 20_000];
+    let begun = texts::put(&mut buffer, 0, first);
+    let repeated = texts::repeat(&mut buffer, begun, line, times);
+    let end = texts::put(&mut buffer, repeated, last);
+    show(label, &buffer[..end]);
+}
+
+fn long_lines() {
+    show_repeated(b"9,000 digits and hyphens", b"C 1", b"-2", 4499, b"3\n");
+    show_repeated(b"a hyphen after them", b"C 1", b"-2", 4499, b"-\n");
+    show_repeated(b"12,000 digits", b"C ", b"7000", 3000, b"\n");
+    show_repeated(
+        b"16,384 bytes with a hyphen",
+        b"C 700012-000019\n",
+        b"G 1 1\n",
+        2728,
+        b"",
+    );
+    show_repeated(
+        b"16,385 bytes by a hyphen",
+        b"C 7000-12-000019\n",
+        b"G 1 1\n",
+        2728,
+        b"",
+    );
+}
+
 // The text of so many cards, a line so many times, and what is last.
 fn show_limit(label: &[u8], cards: u8, line: &[u8], times: usize, last: &[u8]) {
     let mut buffer = [0u8; 20_000];
@@ -139,6 +200,8 @@ fn show_limit(label: &[u8], cards: u8, line: &[u8], times: usize, last: &[u8]) {
 fn limits() {
     show_limit(b"32 cards", 32, b"", 0, b"");
     show_limit(b"33 cards", 32, b"C 1\n", 1, b"");
+    show_limit(b"33rd card in groups", 32, b"C 7000-1200-0019\n", 1, b"");
+    show_limit(b"33rd card with a doubled hyphen", 32, b"C 1--2\n", 1, b"");
     show_limit(b"56 rules", 1, b"R 1 A a\n", 56, b"");
     show_limit(b"57 rules", 1, b"R 1 A a\n", 57, b"");
     show_limit(b"57th rule of no card", 1, b"R 1 A a\n", 56, b"R 2 A a\n");
@@ -158,5 +221,7 @@ fn main() {
     rules();
     bytes();
     cards();
+    hyphens();
+    long_lines();
     limits();
 }

@@ -1,5 +1,6 @@
 //! The rule text read into cards, groups and rules (questions 1 to 7).
 
+use std::mem;
 use std::ops::Deref;
 
 /// Longest rule text in bytes.
@@ -59,11 +60,13 @@ impl<T> Deref for Few<T> {
     }
 }
 
-/// A declared card. Digits beyond its length are zero, so equal cards have equal fields.
-#[derive(Clone, Copy, Debug)]
+/// A card's digits in ASCII, then zero bytes, so that equal cards have equal rows.
+type Digits = [u8; MAX_DIGITS];
+
+/// A declared card.
+#[derive(Clone, Copy, Debug, PartialEq)]
 pub struct Card {
-    digits: [u8; MAX_DIGITS],
-    length: u8,
+    digits: Digits,
     /// The first six digits as a number.
     pub issuer: u32,
     /// Bit g - 1 is set if the card is in group g.
@@ -146,7 +149,7 @@ impl Book {
 
     fn add(&mut self, line: &[u8]) -> Result<(), u8> {
         match Line::read(line).ok_or(2)? {
-            Line::Card(digits) => self.add_card(digits),
+            Line::Card(number) => self.add_card(&number),
             Line::Group { bit, card } => {
                 if !self.declares(card.into()) {
                     return Err(6);
@@ -167,29 +170,23 @@ impl Book {
         }
     }
 
-    fn add_card(&mut self, text: &[u8]) -> Result<(), u8> {
+    fn add_card(&mut self, number: &Number) -> Result<(), u8> {
         if self.cards.len() == MAX_CARDS {
             return Err(3);
         }
-        if !(MIN_DIGITS..=MAX_DIGITS).contains(&text.len()) || !passes_luhn(text) {
+        let digits = number.digits;
+        let length = usize::from(number.length);
+        if !(MIN_DIGITS..=MAX_DIGITS).contains(&length) || !passes_luhn(&digits[..length]) {
             return Err(4);
         }
-        let mut digits = [0; MAX_DIGITS];
-        digits[..text.len()].copy_from_slice(text);
-        let length = text.len() as u8;
-        if self
-            .cards
-            .iter()
-            .any(|card| card.length == length && card.digits == digits)
-        {
+        if self.cards.iter().any(|card| card.digits == digits) {
             return Err(5);
         }
-        let issuer = text[..6]
+        let issuer = digits[..6]
             .iter()
             .fold(0, |number, &digit| number * 10 + u32::from(digit - b'0'));
         self.cards.push(Card {
             digits,
-            length,
             issuer,
             groups: 0,
         });
@@ -215,20 +212,27 @@ pub fn passes_luhn(text: &[u8]) -> bool {
     sum.is_multiple_of(10)
 }
 
+/// A card line's digits without its hyphens: as many of the first as a card may have, and how many
+/// there are, which is less than the bytes of a text.
+struct Number {
+    digits: Digits,
+    length: u16,
+}
+
 /// A line that has one of the three forms.
-enum Line<'t> {
-    Card(&'t [u8]),
+enum Line {
+    Card(Number),
     Group { bit: u8, card: u8 },
     Rule(Rule),
 }
 
-impl<'t> Line<'t> {
-    fn read(line: &'t [u8]) -> Option<Line<'t>> {
+impl Line {
+    fn read(line: &[u8]) -> Option<Line> {
         let mut rest = Rest(line.strip_suffix(b"\n")?);
         let letter = rest.next()?;
         rest.literal(b" ")?;
         let line = match letter {
-            b'C' => Line::Card(rest.digits()?),
+            b'C' => Line::Card(rest.number()?),
             b'G' => {
                 let bit = rest.group()?;
                 rest.literal(b" ")?;
@@ -245,7 +249,7 @@ impl<'t> Line<'t> {
 /// What is left of a line; each reader takes its part from the front or answers nothing.
 struct Rest<'t>(&'t [u8]);
 
-impl<'t> Rest<'t> {
+impl Rest<'_> {
     fn next(&mut self) -> Option<u8> {
         let (&first, rest) = self.0.split_first()?;
         self.0 = rest;
@@ -263,10 +267,25 @@ impl<'t> Rest<'t> {
         (first..=last).contains(&byte).then(|| byte - first)
     }
 
-    fn digits(&mut self) -> Option<&'t [u8]> {
-        let digits = self.0;
-        self.0 = &[];
-        (!digits.is_empty() && digits.iter().all(u8::is_ascii_digit)).then_some(digits)
+    /// All that is left: digits, with one hyphen or none between two of them.
+    fn number(&mut self) -> Option<Number> {
+        let mut digits = [0; MAX_DIGITS];
+        let mut length = 0;
+        let mut after_digit = false;
+        for &byte in mem::take(&mut self.0) {
+            match byte {
+                b'0'..=b'9' => {
+                    if let Some(place) = digits.get_mut(usize::from(length)) {
+                        *place = byte;
+                    }
+                    length += 1;
+                }
+                b'-' if after_digit => (),
+                _ => return None,
+            }
+            after_digit = byte != b'-';
+        }
+        after_digit.then_some(Number { digits, length })
     }
 
     fn group(&mut self) -> Option<u8> {

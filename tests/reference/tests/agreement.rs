@@ -7,6 +7,7 @@ use reference::engine::{Engine, HOLDINGS, MAX_SUM};
 use reference::generate::{self, long_settlement, Settlement, Swap, Transcript};
 use reference::random::Random;
 use reference::{ring, search, till};
+use std::collections::BTreeSet;
 
 #[test]
 fn some_proof_settles_exactly_the_fair_and_covered() {
@@ -122,6 +123,45 @@ fn tables_have_lines_at_each_limit() {
             assert!(transcripts.iter().any(has), "{length}");
         }
     }
+}
+
+#[test]
+fn tables_have_hyphens_in_each_answer() {
+    let transcripts = Transcript::every(&mut Random::new(12, 0));
+    let texts = transcripts.iter().filter_map(|case| case.book.text());
+    let answers = texts.filter(|text| generate::hyphened(text)).map(|text| {
+        let answer = Book::read(text);
+        answer.map_or_else(|refusal| refusal.number, |_| 0)
+    });
+    let answers: BTreeSet<_> = answers.collect();
+    assert_eq!(answers, BTreeSet::from([0, 1, 2, 3, 4, 5]));
+}
+
+/// Where a text is refused for its size or a line's form, its hyphens may be why; nowhere else.
+#[test]
+fn without_its_hyphens_a_text_is_answered_the_same() {
+    let mut counts = [0; 8];
+    for case in 0..4_000 {
+        let random = &mut Random::new(13, case);
+        let text = match random.below(3) {
+            0 => generate::valid(random),
+            1 => generate::limits(random),
+            _ => generate::damaged(random),
+        };
+        let answer = |text: &[u8]| Book::read(text).map(|book| book.cards);
+        let number = answer(&text).map_or_else(|refusal| refusal.number, |_| 0);
+        if generate::hyphened(&text) {
+            counts[usize::from(number)] += 1;
+        }
+        if number == 1 || number == 2 {
+            continue;
+        }
+        let mut bare = text.clone();
+        bare.retain(|&byte| byte != b'-');
+        assert_eq!(answer(&text), answer(&bare), "{}", text.escape_ascii());
+    }
+    let met = counts.map(|count| count >= 20);
+    assert_eq!(met, [true, true, true, true, true, true, false, false]);
 }
 
 #[test]

@@ -1,6 +1,6 @@
 //! Tables of rule texts, command lines and proofs with the answers that they must get.
 
-use reference::book::{Book, Refusal};
+use reference::book::{passes_luhn, Book, Refusal, MAX_CARDS, MAX_TEXT};
 use reference::commands::Dialect;
 use reference::engine::Engine;
 use reference::generate::long_settlement;
@@ -16,9 +16,18 @@ fn opening(text: &[u8]) -> (u8, u32) {
     }
 }
 
+/// Asks of each line, in a text after the card's, which number it is refused with, or 0.
+fn check_second_lines(table: &[(&[u8], u8)]) {
+    for &(line, number) in table {
+        let text = [CARD.as_bytes(), line].concat();
+        let place = if number == 0 { 0 } else { 2 };
+        assert_eq!(opening(&text), (number, place), "{}", line.escape_ascii());
+    }
+}
+
 #[test]
 fn second_lines() {
-    let table: &[(&[u8], u8)] = &[
+    check_second_lines(&[
         (b"C 700056000016\n", 0),
         (b"C 700056000016", 2),
         (b"C 700056000016\r\n", 2),
@@ -60,12 +69,179 @@ fn second_lines() {
         (b"R 1 A a ? 9 a\n", 2),
         (b"R 1 A a = a\n", 2),
         (b"R 1 A \xe1\n", 2),
+    ]);
+}
+
+#[test]
+fn printed_groups() {
+    check_second_lines(&[
+        (b"C 7000-5600-0016\n", 0),
+        (b"C 7-00056000016\n", 0),
+        (b"C 70005600001-6\n", 0),
+        (b"C 7-0-0-0-5-6-0-0-0-0-1-6\n", 0),
+        (b"C 7000120000000000008\n", 0),
+        (b"C 7-0-0-0-1-2-0-0-0-0-0-0-0-0-0-0-0-0-8\n", 0),
+        (b"C 7000-1200-0019\n", 5),
+        (b"C 7-0-0-0-1-2-0-0-0-0-1-9\n", 5),
+        (b"C 7000-1200-0018\n", 4),
+        (b"C 7000-5600-0017\n", 4),
+        (b"C 0-0\n", 4),
+        (b"C 7000-5600-005\n", 4),
+        (b"C 7-0-0-0-5-6-0-0-0-0-5\n", 4),
+        (b"C 7000-1200-0000-0000-0001\n", 4),
+        (b"C 7000-1200-0000-0000-0084\n", 4),
+        (b"C 7-0-0-0-1-2-0-0-0-0-0-0-0-0-0-0-0-0-0-1\n", 4),
+        (b"C -\n", 2),
+        (b"C -", 2),
+        (b"C --\n", 2),
+        (b"C  -\n", 2),
+        (b"C - \n", 2),
+        (b"C-\n", 2),
+        (b"C -7\n", 2),
+        (b"C 7-\n", 2),
+        (b"C -7000-5600-0016\n", 2),
+        (b"C -700056000016\n", 2),
+        (b"C 7000-5600-0016-\n", 2),
+        (b"C 700056000016-\n", 2),
+        (b"C 700056000016-", 2),
+        (b"C 7000--5600-0016\n", 2),
+        (b"C 7000-5600--0016\n", 2),
+        (b"C 7000---5600-0016\n", 2),
+        (b"C- 7000-5600-0016\n", 2),
+        (b"C-7000-5600-0016\n", 2),
+        (b"-C 7000-5600-0016\n", 2),
+        (b"C  7000-5600-0016\n", 2),
+        (b"C 7000 -5600-0016\n", 2),
+        (b"C 7000- 5600-0016\n", 2),
+        (b"C 7000-5600-0016 \n", 2),
+        (b"C 7000-5600-0016\r\n", 2),
+        (b"C 7000-5600-0016", 2),
+        (b"C 7000-5600-\n0016\n", 2),
+        // Its eight digits are a card line, and the hyphen is the next line's.
+        (b"C 7000-5600\n-0016\n", 4),
+        (b"C 7000,5600,0016\n", 2),
+        (b"C 7000.5600.0016\n", 2),
+        (b"C 7000\xad5600\xad0016\n", 2),
+        (b"C 7000\xe2\x80\x935600\xe2\x80\x930016\n", 2),
+        (b"G -1 1\n", 2),
+        (b"G 1-1\n", 2),
+        (b"G 1 -1\n", 2),
+        (b"G 1 1-\n", 2),
+        (b"G 1 1-0\n", 2),
+        (b"R -1 A a\n", 2),
+        (b"R 1- A a\n", 2),
+        (b"R 1-0 A a\n", 2),
+        (b"R 1-A-a\n", 2),
+        (b"R 1 A a-\n", 2),
+    ]);
+}
+
+#[test]
+fn repeated_in_another_print() {
+    let prints = [
+        "C 700012000019\n",
+        "C 7000-1200-0019\n",
+        "C 7-0-0-0-1-2-0-0-0-0-1-9\n",
     ];
-    for &(line, number) in table {
-        let text = [CARD.as_bytes(), line].concat();
-        let place = if number == 0 { 0 } else { 2 };
-        assert_eq!(opening(&text), (number, place), "{}", line.escape_ascii());
+    for first in prints {
+        for second in prints {
+            let text = [first, second].concat();
+            assert_eq!(opening(text.as_bytes()), (5, 2), "{text}");
+        }
     }
+}
+
+#[test]
+fn thirty_third_in_printed_groups() {
+    let cards: String = (1..=MAX_CARDS).map(numbered_card).collect();
+    assert_eq!(opening(cards.as_bytes()), (0, 0));
+    let table = [
+        ("C 7000-5600-0016\n", 3),
+        ("C 7000-5600-0017\n", 3),
+        ("C 7-0\n", 3),
+        ("C 7000-5600-0016-\n", 2),
+        ("C 7000--5600-0016\n", 2),
+        ("C 7000-5600-0016", 2),
+    ];
+    for (line, number) in table {
+        let text = format!("{cards}{line}");
+        assert_eq!(opening(text.as_bytes()), (number, 33), "{line}");
+    }
+}
+
+/// A card line in printed groups, of a number that has the card's in it.
+fn numbered_card(card: usize) -> String {
+    let check = |check: &usize| passes_luhn(format!("7000120{card:04}{check}").as_bytes());
+    let check = (0..10).find(check).expect("one of ten is right");
+    format!("C 7000-120{}-{:03}{check}\n", card / 1_000, card % 1_000)
+}
+
+#[test]
+fn long_card_lines() {
+    let hyphens = "-7".repeat(4_500);
+    let table = [
+        (format!("C 7{hyphens}\n"), 4),
+        (format!("C {}\n", "7".repeat(9_000)), 4),
+        (format!("C {}{hyphens}\n", "7".repeat(5_000)), 4),
+        (format!("C 7{hyphens}-\n"), 2),
+        (format!("C 7-{hyphens}\n"), 2),
+        (format!("C {hyphens}\n"), 2),
+        (format!("C 7{hyphens}"), 2),
+        (format!("C {}\n", "-".repeat(9_000)), 2),
+    ];
+    for (line, number) in table {
+        let text = format!("{CARD}{line}");
+        assert_eq!(opening(text.as_bytes()), (number, 2));
+    }
+}
+
+#[test]
+fn hyphens_are_bytes_of_the_text() {
+    let table = [
+        ("C 700012000019\n", 16_383, (0, 0)),
+        ("C 7000-12000019\n", 16_384, (0, 0)),
+        ("C 7000-1200-0019\n", 16_385, (1, 0)),
+    ];
+    for (card, bytes, expected) in table {
+        let text = format!("{card}{}", "G 1 1\n".repeat(2_728));
+        assert_eq!(text.len(), bytes);
+        assert_eq!(opening(text.as_bytes()), expected, "{card}");
+    }
+    // One line of the most bytes, and with one of its digits in a group of its own.
+    let line = format!("C {}\n", "7".repeat(MAX_TEXT - 3));
+    assert_eq!(opening(line.as_bytes()), (4, 1));
+    let longer = line.replacen("C 7", "C 7-", 1);
+    assert_eq!(opening(longer.as_bytes()), (1, 0));
+}
+
+#[test]
+fn ring_in_printed_groups() {
+    let printed = ring::BOOK
+        .replace("C 700056000016", "C 7000-5600-0016")
+        .replace("C 700012000019", "C 7-0-0-0-1-2-0-0-0-0-1-9")
+        .replace("C 700012000027", "C 70001200002-7");
+    assert_eq!(printed.matches('-').count(), 14);
+    let cards = |text: &str| Book::read(text.as_bytes()).map(|book| book.cards);
+    assert_eq!(cards(&printed), cards(ring::BOOK));
+    for dialect in Dialect::ALL {
+        let output = dialect.output(Some(printed.as_bytes()), ring::INPUT.as_bytes());
+        assert_eq!(output, ring::OUTPUT.as_bytes());
+    }
+}
+
+#[test]
+fn issuer_without_its_hyphens() {
+    let text = "C 7-0-0-0-1-2000019\nC 700012000027\nC 7000-5600-0016\nR 1 A a = a *\n";
+    let (mut engine, answer) = Engine::open(text.as_bytes());
+    assert_eq!(answer, Ok(()));
+    assert_eq!(engine.issue(1, 1, 1), Ok(()));
+    let proof = |card| [0, 1, 1, 0, card, 0, 0, 0, 0, 0, 0, 0];
+    let other = Refusal {
+        number: 19,
+        place: 1,
+    };
+    assert_eq!(engine.settle(&[1, 1, 3], &proof(3)), Err(other));
+    assert_eq!(engine.settle(&[1, 1, 2], &proof(2)), Ok(()));
 }
 
 #[test]
@@ -73,6 +249,8 @@ fn first_failing_line_decides() {
     assert_eq!(opening(b"G 1 1\nC 700012000019\n"), (6, 1));
     assert_eq!(opening(b"C 700012000018\nX\nC 1"), (4, 1));
     assert_eq!(opening(format!("{CARD}{CARD}X").as_bytes()), (5, 2));
+    assert_eq!(opening(b"C 7000-1200-0018\nC -\n"), (4, 1));
+    assert_eq!(opening(b"C -7000-1200-0018\nC 1\n"), (2, 1));
 }
 
 #[test]

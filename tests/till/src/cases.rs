@@ -87,20 +87,21 @@ impl Case {
         let larges = [
             large::accepted(8),
             large::accepted(32),
+            large::hyphened(32),
             large::asked_twice(),
         ];
         texts
             .chain(larges)
-            .chain(every_text())
+            .chain(every_text(large::accepted(4)))
+            .chain(every_text(large::hyphened(4)))
             .chain(every_exchange())
             .chain(every_proof(random))
             .chain(every_holding())
     }
 }
 
-/// The large text and a piece of it after it, cut at every length.
-fn every_text() -> impl Iterator<Item = Case> {
-    let whole = large::accepted(4);
+/// The case's text and a piece of it after it, cut at every length.
+fn every_text(whole: Case) -> impl Iterator<Item = Case> {
     let more = whole.text[..PAST_TEXT].to_vec();
     let text = [whole.text.clone(), more].concat();
     (0..=text.len()).map(move |length| Case {

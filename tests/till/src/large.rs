@@ -35,6 +35,19 @@ pub fn unfilled(transfers: usize) -> Case {
     }
 }
 
+/// The same with a hyphen between any two digits of a card.
+pub fn hyphened(transfers: usize) -> Case {
+    let text = needed();
+    let lines = text.lines().map(|line| match line.strip_prefix("C ") {
+        Some(digits) => format!("C {}\n", spread(digits)),
+        None => format!("{line}\n"),
+    });
+    Case {
+        text: lines.collect::<String>().into_bytes(),
+        ..accepted(transfers)
+    }
+}
+
 /// All 32 transfers with one of them asked twice, which shows only after the last record: 21.
 pub fn asked_twice() -> Case {
     let mut case = accepted(MAX_CARDS);
@@ -43,6 +56,11 @@ pub fn asked_twice() -> Case {
     let cards = [after(MAX_CARDS), MAX_CARDS - 2, MAX_CARDS - 1];
     case.proof.extend(record([0, MAX_CARDS, MAX_RULES], &cards));
     case
+}
+
+fn spread(digits: &str) -> String {
+    let digits: Vec<_> = digits.chars().map(String::from).collect();
+    digits.join("-")
 }
 
 fn after(card: usize) -> usize {

@@ -5,6 +5,7 @@
 
 mod room;
 
+use reference::generate::hyphened;
 use reference::random::Random;
 use reference::till;
 use room::Room;
@@ -26,6 +27,8 @@ const EXPECTED: [&[usize]; 3] = [
     &[24],
     &[12, 13, 14, 15, 16, 17, 18, 19, 20, 21, 22],
 ];
+/// No answers to a line with a hyphen, which is a card's or has no form.
+const UNHYPHENED: [usize; 2] = [6, 7];
 
 fn main() -> ExitCode {
     let arguments: Vec<String> = std::env::args().skip(1).collect();
@@ -59,21 +62,32 @@ fn usage() -> ExitCode {
     ExitCode::from(2)
 }
 
-/// How often each answer was given.
+/// How often each answer was given, and how often hyphens had a part in it.
 #[derive(Default)]
-struct Tally([u64; LAST + 1]);
+struct Tally {
+    all: [u64; LAST + 1],
+    hyphened: [u64; LAST + 1],
+}
 
 impl Tally {
+    fn count(&mut self, answer: usize, text: &[u8]) {
+        self.all[answer] += 1;
+        self.hyphened[answer] += u64::from(hyphened(text));
+    }
+
     fn add(&mut self, other: &Tally) {
-        for (count, more) in self.0.iter_mut().zip(other.0) {
+        let counts = self.all.iter_mut().chain(&mut self.hyphened);
+        for (count, more) in counts.zip(other.all.iter().chain(&other.hyphened)) {
             *count += more;
         }
     }
 
     fn table(&self) -> String {
-        let mut table = format!("{} calls\n", self.0.iter().sum::<u64>());
+        let calls: u64 = self.all.iter().sum();
+        let mut table = format!("{calls} calls: each answer, in all and with hyphens\n");
         for answer in EXPECTED.concat() {
-            let _ = writeln!(table, "{answer:>5} {:>8}", self.0[answer]);
+            let (all, hyphened) = (self.all[answer], self.hyphened[answer]);
+            let _ = writeln!(table, "{answer:>5} {all:>8} {hyphened:>8}");
         }
         table.pop();
         table
@@ -82,14 +96,22 @@ impl Tally {
     /// What a run that agreed still left untried, or showed that cannot be.
     fn complaint(&self) -> Option<String> {
         let expected = EXPECTED.concat();
-        (0..=LAST).find_map(
-            |answer| match (expected.contains(&answer), self.0[answer]) {
-                (true, 0) => Some(format!("answer {answer} was never given")),
-                (false, 1..) => Some(format!("answer {answer} cannot be given, and was")),
-                _ => None,
-            },
-        )
+        let mut hyphened = expected.clone();
+        hyphened.retain(|answer| !UNHYPHENED.contains(answer));
+        complaint(&self.all, &expected, "")
+            .or_else(|| complaint(&self.hyphened, &hyphened, " where there are hyphens"))
     }
+}
+
+fn complaint(counts: &[u64], expected: &[usize], when: &str) -> Option<String> {
+    let mut answers = counts.iter().enumerate();
+    answers.find_map(
+        |(answer, count)| match (expected.contains(&answer), count) {
+            (true, 0) => Some(format!("answer {answer} was never given{when}")),
+            (false, 1..) => Some(format!("answer {answer} cannot be given{when}, and was")),
+            _ => None,
+        },
+    )
 }
 
 /// The cases of every run, then so many random ones; an error is a report to print.
@@ -152,7 +174,7 @@ fn compare(case: &Case, random: &mut Random, tally: &mut Tally) -> Result<(), St
             return Err(format!("answer {answer}: the {name}, or what is around it"));
         }
     }
-    tally.0[usize::from(number)] += 1;
+    tally.count(number.into(), &case.text);
     Ok(())
 }
 

@@ -1,16 +1,16 @@
 //! Rule texts: valid ones, ones at each limit, and ones with damage.
 
-use crate::book::{passes_luhn, MAX_CARDS, MAX_RULES, MAX_TEXT};
+use crate::book::{passes_luhn, Book, Refusal, MAX_CARDS, MAX_RULES, MAX_TEXT};
 use crate::random::Random;
 
 /// Few issuers, so that cards often share one, and some that differ in an outer digit only.
 const ISSUERS: [&str; 4] = ["700012", "700056", "700057", "000057"];
 
 /// Bytes next to a form's own, or of another part of it.
-const NEAR_MISSES: &[u8] = b"\0\t\n\r  *-<=?@ACGPQRaghi0123489`\x7f\x80\xff";
+const NEAR_MISSES: &[u8] = b"\0\t\n\r  *,-.<=?@ACGPQRaghi0123489`\x7f\x80\xff";
 
 /// Lines that no form has, whatever is above them.
-const FORMLESS: [&str; 62] = [
+const FORMLESS: [&str; 103] = [
     "",
     " ",
     "C",
@@ -18,10 +18,36 @@ const FORMLESS: [&str; 62] = [
     "C  700012000019",
     "C 70001200001x",
     "C 7000 12000019",
-    "C -700012000019",
     "C 700012000019\t",
     "C700012000019",
     "c 700012000019",
+    "C -",
+    "C --",
+    "C -7",
+    "C 7-",
+    "C -700012000019",
+    "C 700012000019-",
+    "C 7000--12000019",
+    "C -7000-1200-0019",
+    "C 7000-1200-0019-",
+    "C 7000-1200--0019",
+    "C 7000--1200-0019",
+    "C 7000---1200-0019",
+    "C 7-0-0-0-1-2-0-0-0-0-1-9-",
+    "C  7000-1200-0019",
+    "C 7000-1200-0019 ",
+    "C 7000-1200- 0019",
+    "C 7000 -1200-0019",
+    "C 7000-1200-001x",
+    "C 7000,1200,0019",
+    "C 7000.1200.0019",
+    "C 7000\u{2013}1200\u{2013}0019",
+    "C 7000-1200-0019\r",
+    "C 7000-1200-0019-\r",
+    "C- 700012000019",
+    "C-700012000019",
+    "C-",
+    "-C 700012000019",
     "G 0 1",
     "G 9 1",
     "G 01 1",
@@ -32,6 +58,13 @@ const FORMLESS: [&str; 62] = [
     "G 1 100",
     "G 1 *",
     "G 1 1 1",
+    "G -1 1",
+    "G 1-1",
+    "G 1- 1",
+    "G 1 -1",
+    "G 1 1-",
+    "G 1 1-0",
+    "G-1 1",
     "G 1",
     "G  1 1",
     "g 1 1",
@@ -52,6 +85,14 @@ const FORMLESS: [&str; 62] = [
     "R 1 A i",
     "R 1 A `",
     "R 1 A *",
+    "R -1 A a",
+    "R 1- A a",
+    "R 1-0 A a",
+    "R 1-A-a",
+    "R 1 A -a",
+    "R 1 A a-",
+    "R 1 A a < b-B *",
+    "R 1 A a ? 1-1 a",
     "R 1 AB a",
     "R 1 A ab",
     "r 1 A a",
@@ -88,6 +129,22 @@ const UNUSUAL: [&str; 9] = [
     "R 1 A a < a A b < b B a < c C d < d D c ? 1 e = f * = * g ? 8 h",
 ];
 
+/// Whether a hyphen comes after so many digits of a card number, which has so many in all.
+type Hyphens = fn(usize, usize) -> bool;
+
+/// Ways to print a card number: bare, in printed groups of one digit or of four, and with one
+/// hyphen, as far left or right as may be.
+const PRINTS: [Hyphens; 5] = [
+    |_, _| false,
+    |_, _| true,
+    |before, _| before % 4 == 0,
+    |before, _| before == 1,
+    |before, digits| before + 1 == digits,
+];
+
+/// Digits of a card line that is far too long, while the text is not, however it is printed.
+const LONG_CARD: usize = 4_000;
+
 /// How much a rule text has of everything.
 struct Shape {
     cards: usize,
@@ -121,28 +178,63 @@ pub fn valid(random: &mut Random) -> Vec<u8> {
 
 /// Books whose last line is, in turn, each of the tables or at a limit.
 pub fn every(random: &mut Random) -> Vec<Vec<u8>> {
+    let card = card_line(12, random);
+    [
+        after_small(&card, random),
+        after_full(&card, random),
+        twice(&card),
+        about_longest(random),
+    ]
+    .concat()
+}
+
+/// Small books, each with a line more: those of the tables, and cards of every sort.
+fn after_small(card: &str, random: &mut Random) -> Vec<Vec<u8>> {
     let undeclared = ["G 1 33", "G 1 99", "R 33 A a", "R 99 A a"];
     let tables = [&FORMLESS[..], &UNUSUAL, &undeclared].concat();
-    let cards = [1, 11, 12, 19, 20, 40].map(|digits| card_line(digits, random));
+    let mut cards = [1, 2, 11, 12, 19, 20, 40, LONG_CARD]
+        .map(|digits| card_line(digits, random))
+        .to_vec();
+    cards.push(spoiled(card.into()));
+    // One digit too many, after a number that is right without it.
+    cards.push(checked(&digits(&card_line(19, random))));
+    let cards = cards.iter().flat_map(|card| prints(card));
     let last_lines = tables.into_iter().map(String::from).chain(cards);
-    let mut books: Vec<_> = last_lines
+    last_lines
         .map(|line| [small(random), text(&[line])].concat())
-        .collect();
-    let card = card_line(12, random);
-    for line in [
-        "G 1 32",
-        "R 32 A a",
-        "R 33 A a",
-        &card,
-        &spoiled(card.clone()),
-    ] {
+        .collect()
+}
+
+/// Full books, each with a line more.
+fn after_full(card: &str, random: &mut Random) -> Vec<Vec<u8>> {
+    let others = ["G 1 32", "R 32 A a", "R 33 A a", "C 7000-1200-0019-"].map(String::from);
+    let wrong = spoiled(card.into());
+    let last_lines = [&others[..], &prints(card), &prints(&wrong)].concat();
+    let after_full = |line| {
         let mut lines = full(random);
-        lines.push(line.into());
-        books.push(text(&lines));
+        lines.push(line);
+        text(&lines)
+    };
+    last_lines.into_iter().map(after_full).collect()
+}
+
+/// A card twice, printed in each way after each.
+fn twice(card: &str) -> Vec<Vec<u8>> {
+    let mut books = Vec::new();
+    for first in prints(card) {
+        for second in prints(card) {
+            books.push(format!("{first}\n{second}\n").into());
+        }
     }
-    books.push(sized(MAX_TEXT, random));
-    books.push(sized(MAX_TEXT + 1, random));
     books
+}
+
+/// Books of the most bytes, and of one more.
+fn about_longest(random: &mut Random) -> Vec<Vec<u8>> {
+    let sizes = [MAX_TEXT, MAX_TEXT + 1].into_iter();
+    sizes
+        .flat_map(|bytes| PRINTS.map(|hyphens| sized(bytes, hyphens, random)))
+        .collect()
 }
 
 /// A rule text that goes up to a limit or just over it.
@@ -165,9 +257,15 @@ pub fn limits(random: &mut Random) -> Vec<u8> {
             lines = full(random);
             format!("R {} A a", random.pick(&[1, 32, 33]))
         }
-        2 => return sized(MAX_TEXT, random),
-        3 => return sized(random.pick(&[MAX_TEXT + 1, 20_000, 100_000]), random),
-        4 => card_line(random.pick(&[1, 2, 11, 12, 19, 20, 40]), random),
+        2 | 3 => {
+            let longer = random.pick(&[MAX_TEXT + 1, 20_000, 100_000]);
+            let bytes = random.pick(&[MAX_TEXT, longer]);
+            return sized(bytes, random.pick(&PRINTS), random);
+        }
+        4 => {
+            let digits = random.pick(&[1, 2, 11, 12, 19, 20, 40, LONG_CARD, 2 * LONG_CARD]);
+            card_line(digits, random)
+        }
         5 => spoiled(card_line(12, random)),
         6 => some_card(&lines, random),
         7 => longer_card(&some_card(&lines, random), random),
@@ -178,6 +276,7 @@ pub fn limits(random: &mut Random) -> Vec<u8> {
         }
         _ => random.pick(&UNUSUAL).into(),
     };
+    let line = copied(line, random);
     insert(&mut lines, line, random);
     text(&lines)
 }
@@ -195,11 +294,24 @@ pub fn damaged(random: &mut Random) -> Vec<u8> {
     text
 }
 
+/// Whether what decides the answer to a text has a hyphen: the line that is refused, or else all
+/// of the text.
+pub fn hyphened(text: &[u8]) -> bool {
+    let mut lines = text.split(|&byte| byte == b'\n');
+    let decides = match Book::read(text) {
+        Err(Refusal { place, .. }) if place > 0 => {
+            lines.nth(place as usize - 1).unwrap_or_default()
+        }
+        _ => text,
+    };
+    decides.contains(&b'-')
+}
+
 fn damage(text: &mut Vec<u8>, random: &mut Random) {
     let place = random.below(text.len() + 1);
     let line_start = start_of_line(text, place);
     let byte = random.pick(NEAR_MISSES);
-    match random.below(9) {
+    match random.below(10) {
         0 | 1 if place < text.len() => text[place] = byte,
         2 if place < text.len() => {
             text.remove(place);
@@ -215,11 +327,24 @@ fn damage(text: &mut Vec<u8>, random: &mut Random) {
             let spaces = (place..text.len()).find(|&at| text[at] == b' ');
             text.insert(spaces.unwrap_or(place), b' ');
         }
+        8 => text.insert(beside_word(text, line_start, random), b'-'),
         _ => {
             let line = random.pick(&FORMLESS).bytes().chain([b'\n']);
             text.splice(line_start..line_start, line);
         }
     }
+}
+
+/// A place about the line's letter, at its end, or before the next hyphen.
+fn beside_word(text: &[u8], line_start: usize, random: &mut Random) -> usize {
+    let rest = &text[line_start..];
+    let next = |byte| rest.iter().position(|&other| other == byte);
+    let place = match random.below(3) {
+        0 => Some(random.below(4)),
+        1 => next(b'\n'),
+        _ => next(b'-'),
+    };
+    line_start + place.unwrap_or(rest.len()).min(rest.len())
 }
 
 fn start_of_line(text: &[u8], place: usize) -> usize {
@@ -252,9 +377,12 @@ fn full(random: &mut Random) -> Vec<String> {
     lines(&shape, random)
 }
 
-/// A book of exactly so many bytes, filled up with lines of six and seven bytes.
-fn sized(bytes: usize, random: &mut Random) -> Vec<u8> {
-    let mut text = text(&full(random));
+/// A book of exactly so many bytes, filled up with lines of six and seven bytes, whose first card
+/// is printed this way.
+fn sized(bytes: usize, hyphens: Hyphens, random: &mut Random) -> Vec<u8> {
+    let mut lines = full(random);
+    lines[0] = printed(&lines[0], hyphens);
+    let mut text = text(&lines);
     let left = bytes - text.len();
     text.extend(b"G 1 32\n".repeat(left % 6));
     text.extend(b"G 1 1\n".repeat(left / 6 - left % 6));
@@ -299,6 +427,10 @@ fn lines(shape: &Shape, random: &mut Random) -> Vec<String> {
             lines.remove(last);
         }
         lines.push(rule);
+    }
+    // In half of the books the cards are as somebody copied them.
+    if random.one_in(2) {
+        lines = lines.into_iter().map(|line| copied(line, random)).collect();
     }
     lines
 }
@@ -362,14 +494,49 @@ fn rule_line(shape: &Shape, groups: usize, cards: usize, random: &mut Random) ->
 /// A card line of so many digits whose check digit is right.
 fn card_line(digits: usize, random: &mut Random) -> String {
     let issuer = random.pick(&ISSUERS);
-    let random_digits = (0..40).map(|_| char::from(b'0' + random.below(10) as u8));
+    let random_digits = (0..digits).map(|_| char::from(b'0' + random.below(10) as u8));
     let number: String = issuer.chars().chain(random_digits).collect();
     checked(&number[..digits - 1])
 }
 
+/// A card line as it may be copied, in printed groups or not; another line stays as it is.
+fn copied(line: String, random: &mut Random) -> String {
+    if !line.starts_with('C') {
+        return line;
+    }
+    let gaps = random.draw();
+    match random.below(3) {
+        0 => printed(&line, |_, _| false),
+        1 => printed(&line, |before, _| gaps >> (before % 64) & 1 == 1),
+        _ => printed(&line, random.pick(&PRINTS)),
+    }
+}
+
+/// The card line printed in each way.
+fn prints(line: &str) -> [String; PRINTS.len()] {
+    PRINTS.map(|hyphens| printed(line, hyphens))
+}
+
+/// The card line printed this way, however it was before.
+fn printed(line: &str, hyphens: impl Fn(usize, usize) -> bool) -> String {
+    let digits = digits(line);
+    let mut printed = String::from("C ");
+    for (before, digit) in digits.chars().enumerate() {
+        if before > 0 && hyphens(before, digits.len()) {
+            printed.push('-');
+        }
+        printed.push(digit);
+    }
+    printed
+}
+
+fn digits(line: &str) -> String {
+    line.chars().filter(char::is_ascii_digit).collect()
+}
+
 /// A card line that begins with another's digits.
 fn longer_card(line: &str, random: &mut Random) -> String {
-    let digits = &line[2..];
+    let digits = digits(line);
     let more = "0123456";
     checked(&format!("{digits}{}", &more[..random.below(more.len())]))
 }

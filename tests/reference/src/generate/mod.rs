@@ -5,7 +5,7 @@ mod lines;
 mod swaps;
 mod transcripts;
 
-pub use books::{damaged, limits, small, valid};
+pub use books::{damaged, hyphened, limits, small, valid};
 pub use lines::long_settlement;
 pub use swaps::{small_exchange, Settlement, Swap};
 pub use transcripts::{BookFile, Script, Transcript};

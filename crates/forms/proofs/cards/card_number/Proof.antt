@@ -1,50 +1,46 @@
--- The row has the first i digits.
-use mathlib.Core.Path.{sym}
-use mathlib.Core.List.{map}
-use Prim.Native.Nat.{_-_, _≤_}
-use native.Mathlib.Omega.{arith}
-use lib.ListN.{length-map}
-use Rattle.model.specs.Reader.{digitOf}
-use Rattle.forms.proofs.Digits.{AtByte, digit-at, Filled, filled-none, filled-more, filled-all}
+-- A line that is short or has no space after its letter is no card line; what follows the space decides.
+use mathlib.Core.Path.{_≡_, _∙_}
+use mathlib.Core.Bool.{true, false}
+use Prim.Native.Char.{code}
+use Prim.Native.Nat.{_-_}
+use borrow.Author.Tests.{eq-eqb, ne-eqb}
+use lib.ListN.{length, take, drop}
+use Rattle.model.specs.Reader.{spaceAt}
+use Rattle.model.proofs.Places.{to-end}
+use Rattle.forms.specs.Numbers.{inRow}
+use Rattle.forms.specs.inner.Words.{wordDigits}
+use Rattle.forms.proofs.Digits.{none-short, none-unspaced, digits-after}
 use borrow.Author.Needs.{needs}
 use Rattle.forms.proofs.cards.card_number.Statement.{statement}
 use Rattle.forms.proofs.cards.card_number.Tie as tie
 
-abbrev Inv-loop : tie.InvT-loop
-Inv-loop s digits₀ n i₀ digits i = (i ≤ n) × Filled (map digitOf s) i digits
+returns : tie.Need-returns
+returns c = rw (none-short (c .before .before .before .args .line .now) (c .before .if1 .taken)) (c .no-digits .ensures)
 
-abbrev μ-loop : tie.MeasureT-loop
-μ-loop s digits₀ n i₀ digits i = n - i
+returns-2 : tie.Need-returns-2
+returns-2 c =
+    let w = c .before .before .before .before .before .args .line .now in
+    let no-space : spaceAt w 1 ≡ false = rw (c .before .before .byte .ensures) at (ne-eqb _ (code " ") (c .before .if2 .taken)) in
+    rw (none-unspaced w no-space) (c .no-digits2 .ensures)
 
-loop-holds : tie.Need-loop-holds Inv-loop μ-loop
-loop-holds c = (search needs, filled-none _)
-
-loop-again : tie.Need-loop-again Inv-loop μ-loop
-loop-again c =
-    let h = c .before .before .before .loop in
-    let s = c .before .before .before .before .before .before .args .s .now in
-    let turn : AtByte s (h .i) (c .digit .result) = record { within = search needs; digit = c .digit .ensures .0 } in
-    (search needs, filled-more (h .inv .1) (c .digit .result) (digit-at turn))
-
-returns : tie.Need-returns Inv-loop μ-loop
-returns c =
-    let h = c .before .loop in
-    let n = length-map (c .before .before .before .before .args .s .now) digitOf in
-    let row = filled-all (h .inv .1) (omega (arith, c .before .before .least .ensures)) in
-    λ i. record { count = sym n i; digits = row i }
+returns-3 : tie.Need-returns-3
+returns-3 c =
+    let w = c .before .before .before .before .before .before .args .line .now in
+    let space : spaceAt w 1 ≡ true = rw (c .before .before .before .byte .ensures) at (eq-eqb _ (code " ") (c .before .before .if2 .left)) in
+    let word : c .word-number .result ≡ inRow (wordDigits (take (length w - 2) (drop 2 w))) = c .word-number .ensures in
+    word ∙ rw (to-end w 2, digits-after w space)
 
 pub card-number-spec : {M : Type 1} → statement M
 card-number-spec =
     tie.close
     (tie.spec
-    Inv-loop
-    μ-loop
     (λ c κs. search needs)
-    loop-holds
+    returns
+    (λ c κs. search needs)
+    (λ c κs. search needs)
+    returns-2
+    (λ c. search needs)
+    (λ c. search needs)
     (λ c. search needs)
     (λ c κs. search needs)
-    (λ c. search needs)
-    (λ c. search needs)
-    (λ c. search needs)
-    loop-again
-    returns)
+    returns-3)

@@ -7,12 +7,12 @@ use native.Mathlib.Omega.{arith}
 use borrow.Author.Tests.{not-true, not-false}
 use lib.ListN.{length}
 use Rattle.model.specs.Limits.{cardLimit, mostDigits}
-use Rattle.model.specs.Reader.{isCardLine, cardDigits}
-use Rattle.model.specs.Opening.{isCardNumber}
+use Rattle.model.specs.Reader.{isCardLine, cardGroups}
+use Rattle.model.specs.Opening.{cardDigits, isCardNumber}
 use Rattle.forms.specs.Numbers.{inRow, digitsIn, isNumberIn}
-use Rattle.forms.proofs.Digits.{in-row, number-is}
+use Rattle.forms.proofs.Digits.{no-card-line, card-line, in-row, number-is}
 use Rattle.rulebook.specs.View.{cardCount}
-use Rattle.rulebook.proofs.Forms.{digits-of, card-long, number-size, card-no-form, cards-full, card-wrong, card-repeated, card-taken}
+use Rattle.rulebook.proofs.Forms.{number-size, card-no-form, cards-full, card-wrong, card-repeated, card-taken}
 use borrow.Author.Needs.{needs}
 use Rattle.rulebook.proofs.cards.take.Statement.{statement}
 use Rattle.rulebook.proofs.cards.take.Tie as tie
@@ -23,55 +23,52 @@ abbrev form-met : tie.Else2 → tie.Else1
 form-met c = c .before .before .before
 
 abbrev room-met : tie.Else3 → tie.Else2
-room-met c = c .before .before .before .before
+room-met c = c .before .before
 
 abbrev line-of : tie.Else1 → List ℕ
-line-of c = c .before .before .before .args .line .now
+line-of c = c .before .before .before .before .args .line .now
+
+abbrev card-of : tie.Else1 → List ℕ
+card-of c = cardDigits (cardGroups (line-of c))
 
 -- the line has the form
 formed : (c : tie.Else1) → isCardLine (line-of c) ≡ true
-formed c = sym (c .before .is-card-line .ensures) ∙ not-false _ (c .if1 .left)
+formed c = card-line (line-of c) (λ z. c .if1 .left (ap (λ n. n .count) (c .before .before .card-number .ensures) ∙ z))
 
 -- there is room
-room : (c : tie.Else2) → cardCount (form-met c .before .before .before .args .cards .now) < cardLimit
+room : (c : tie.Else2) → cardCount (form-met c .before .before .before .before .args .cards .now) < cardLimit
 room c = omega (arith, c .if2 .left, c .before .card-count .ensures)
 
 -- its number has the line's digits
-number : (c : tie.After-card-number) → c .card-number .result ≡ inRow (cardDigits (line-of (form-met (c .before .before))))
-number c = c .card-number .ensures ∙ ap inRow (digits-of (line-of (form-met (c .before .before))))
+number : (c : tie.Else1) → c .before .before .card-number .result ≡ inRow (card-of c)
+number c = c .before .before .card-number .ensures ∙ rw (formed c)
 
-asked : (c : tie.After-is-card-number) → c .is-card-number .result ≡ isCardNumber (cardDigits (line-of (form-met (c .before .before .before))))
-asked c = c .is-card-number .ensures ∙ ap isNumberIn (number (c .before)) ∙ number-is (cardDigits (line-of (form-met (c .before .before .before))))
+asked : (c : tie.After-is-card-number) → c .is-card-number .result ≡ isCardNumber (card-of (form-met (c .before)))
+asked c = c .is-card-number .ensures ∙ ap isNumberIn (number (form-met (c .before))) ∙ number-is (card-of (form-met (c .before)))
 
-numbered : (c : tie.Else3) → isCardNumber (cardDigits (line-of (form-met (room-met c)))) ≡ true
+numbered : (c : tie.Else3) → isCardNumber (card-of (form-met (room-met c))) ≡ true
 numbered c = sym (asked (c .before)) ∙ not-false _ (c .if3 .left)
 
-few : (c : tie.Else3) → length (cardDigits (line-of (form-met (room-met c)))) ≤ mostDigits
-few c = number-size (cardDigits (line-of (form-met (room-met c)))) (numbered c) .1
+few : (c : tie.Else3) → length (card-of (form-met (room-met c))) ≤ mostDigits
+few c = number-size (card-of (form-met (room-met c))) (numbered c) .1
 
-digits : (c : tie.Else3) → digitsIn (c .before .before .card-number .result) ≡ cardDigits (line-of (form-met (room-met c)))
-digits c = ap digitsIn (number (c .before .before)) ∙ in-row (cardDigits (line-of (form-met (room-met c)))) (few c)
+digits : (c : tie.Else3) → digitsIn (form-met (room-met c) .before .before .card-number .result) ≡ card-of (form-met (room-met c))
+digits c = ap digitsIn (number (form-met (room-met c))) ∙ in-row (card-of (form-met (room-met c))) (few c)
 
-count : (c : tie.Else3) → c .before .before .card-number .result .count ≤ mostDigits
-count c = rw (number (c .before .before)) (few c)
+count : (c : tie.Else3) → form-met (room-met c) .before .before .card-number .result .count ≤ mostDigits
+count c = rw (number (form-met (room-met c))) (few c)
 
 -- ---- the needs
 
 returns : tie.Need-returns
-returns c = card-no-form (sym (c .before .is-card-line .ensures) ∙ not-true _ (c .if1 .taken))
+returns c = card-no-form (no-card-line _ (sym (ap (λ n. n .count) (c .before .before .card-number .ensures)) ∙ c .if1 .taken))
 
 returns-2 : tie.Need-returns-2
 returns-2 c = cards-full (formed (c .before .before .before)) (omega (arith, c .if2 .taken, c .before .card-count .ensures))
 
-sub-card-number : tie.Need-sub-card-number
-sub-card-number c = omega (arith, card-long _ (formed (form-met c)))
-
-part-card-number-start : tie.Need-part-card-number-start
-part-card-number-start c = omega (arith, card-long _ (formed (form-met c)))
-
 returns-3 : tie.Need-returns-3
 returns-3 c =
-    let d = c .before .before .before .before in
+    let d = c .before .before in
     card-wrong (formed (form-met d)) (room d) (sym (asked (c .before)) ∙ not-true _ (c .if3 .taken))
 
 is-known-requires : tie.Need-is-known-requires
@@ -99,10 +96,6 @@ take-spec =
     returns
     (λ c κs. search needs)
     returns-2
-    sub-card-number
-    part-card-number-start
-    (λ c. search needs)
-    (λ c κs. search needs)
     (λ c κs. search needs)
     returns-3
     is-known-requires

@@ -2,18 +2,22 @@
 
 use crate::report::{first_word, lines};
 use reference::commands::Dialect;
-use reference::generate::Transcript;
+use reference::generate::{hyphened, Transcript};
 use std::collections::BTreeMap;
 use std::fmt::Write;
 
-/// The rows of what has no letter: the book, and every line that is no command of the dialect.
+/// The rows of what has no letter: the book, the book again where hyphens have a part in its
+/// answer, and every line that is no command of the dialect.
 const BOOK: &str = "book.txt";
+const HYPHENS: &str = "hyphens";
 const NONE: &str = "none";
 
 /// Each command's letter, the first words of its answers, and the programs that must have given
-/// all of them in a run. No program may give any other; 23 cannot happen.
+/// all of them in a run. No program may give any other; 23 cannot happen, nor can 6 and 7 to a line
+/// with a hyphen, which is a card's or has no form.
 const ANSWERS: &[(&str, &str, &[Dialect])] = &[
     (BOOK, "book 1 2 3 4 5 6 7 bad", &Dialect::ALL),
+    (HYPHENS, "book 1 2 3 4 5", &Dialect::ALL),
     ("I", "0 8 9 10", &Dialect::ALL),
     ("D", "0 8 9 11", &Dialect::ALL),
     ("H", "= 8 9", &Dialect::ALL),
@@ -40,6 +44,9 @@ impl Tally {
         let mut answers = lines(output).map(first_word);
         if let Some(word) = answers.next() {
             self.count(BOOK.as_bytes(), word);
+            if transcript.book.text().is_some_and(hyphened) {
+                self.count(HYPHENS.as_bytes(), word);
+            }
         }
         for (word, line) in answers.zip(lines(&transcript.input)) {
             let command = match word {
