@@ -4,7 +4,9 @@
  * Link with libtill.a (make lib), which needs nothing but the C library. The archive is for x86-64 Linux.
  *
  * Rule text: ASCII lines, each ended by LF, words one space apart. Cards and rules are numbered from 1 in the order of their lines.
- *   C digits      a card: 12 to 19 digits, the last of them the Luhn check digit
+ *   C digits      a card: 12 to 19 digits, the last of them the Luhn check digit. One hyphen (-) may stand between any two neighbouring
+ *                 digits, as cards are printed, and counts for nothing but the text's size: C 7000-1200-0019 and C 700012000019 are
+ *                 the same card
  *   G g m         card m is in group g, 1 to 8
  *   R m K v       card m gives one token of kind K, A to P, to the card for v, a variable a to h. On the same line, each after a space,
  *                 follow up to four prices and then up to four conditions; the rule serves where every price is a transfer of the
@@ -28,8 +30,11 @@
 extern "C" {
 #endif
 
-/* Raised when an answer's meaning changes. */
-#define THAWCROFT_VERSION 1
+/*
+ * Raised when an answer's meaning changes, or when a text that was refused is taken. 2: card lines may have hyphens; a call whose text has
+ * none is answered as in 1. The archive does not tell its version: build it from the commit that the header is of.
+ */
+#define THAWCROFT_VERSION 2
 
 /* 32 cards by 16 kinds. Card m's holding of kind k (A is 1, P is 16) is at (m - 1) * 16 + k - 1. */
 #define THAWCROFT_HOLDING_COUNT 512
@@ -43,8 +48,8 @@ enum thawcroft_answer {
     THAWCROFT_TEXT_TOO_LONG = 1,   /* more than 16,384 bytes */
     THAWCROFT_NO_FORM = 2,         /* a line has none of the three forms, or no LF */
     THAWCROFT_TOO_MANY_CARDS = 3,  /* a 33rd card */
-    THAWCROFT_BAD_CARD_NUMBER = 4, /* not 12 to 19 digits, or a wrong check digit */
-    THAWCROFT_CARD_REPEATED = 5,   /* a card that is above, digit for digit */
+    THAWCROFT_BAD_CARD_NUMBER = 4, /* not 12 to 19 digits (hyphens are not counted), or a wrong check digit */
+    THAWCROFT_CARD_REPEATED = 5,   /* a card that is above, digit for digit, with hyphens or without */
     THAWCROFT_CARD_NOT_ABOVE = 6,  /* a group or a rule of a card that is not declared above */
     THAWCROFT_TOO_MANY_RULES = 7,  /* a 57th rule */
 

@@ -184,13 +184,14 @@ static void texts(void) {
     call.text_length = 16384;
     refused("16,384 bytes, the last line without its LF", THAWCROFT_NO_FORM);
     text("two spaces", "C  700012000019\n", THAWCROFT_NO_FORM);
-    text("a hyphen doubled", "C 7000--1200-0019\n", THAWCROFT_NO_FORM);
+    text("a doubled hyphen", "C 7000--1200-0019\n", THAWCROFT_NO_FORM);
     cards("32 cards: the exchange is asked next", 32, THAWCROFT_EXCHANGE_SIZE);
     cards("33 cards", 33, THAWCROFT_TOO_MANY_CARDS);
     text("a wrong check digit", "C 700012000018\n", THAWCROFT_BAD_CARD_NUMBER);
-    text("a wrong check digit in printed groups", "C 7000-1200-0018\n", THAWCROFT_BAD_CARD_NUMBER);
+    text("a wrong check digit, the card as it is printed", "C 7000-1200-0018\n", THAWCROFT_BAD_CARD_NUMBER);
     text("a card twice", "C 700012000019\nC 700012000019\n", THAWCROFT_CARD_REPEATED);
     text("a card, then the same as it is printed", "C 700012000019\nC 7000-1200-0019\n", THAWCROFT_CARD_REPEATED);
+    text("a card as it is printed, then its digits", "C 7000-1200-0019\nC 700012000019\n", THAWCROFT_CARD_REPEATED);
     text("a group before its card", "G 1 1\nC 700012000019\n", THAWCROFT_CARD_NOT_ABOVE);
     rules("56 rules: the exchange is asked next", 56, THAWCROFT_EXCHANGE_SIZE);
     rules("57 rules", 57, THAWCROFT_TOO_MANY_RULES);
