@@ -14,7 +14,7 @@ use borrow.Author.Tests.{leb-true}
 use Rattle.model.specs.Limits.{leastDigits, mostDigits}
 use Rattle.model.specs.Lists.{oneIf, each}
 use Rattle.model.specs.CardNumbers.{weighed, luhnSum}
-use Rattle.model.specs.Reader.{digitOf, isDigit, isHyphen, inPrintedGroups, spaceAt, isCardLine, cardGroups}
+use Rattle.model.specs.Reader.{digitOf, isDigit, isHyphen, inPrintedGroups, spaceAt, isCardLine, cardRead}
 use Rattle.model.specs.Opening.{cardDigits, isCardNumber}
 use Rattle.model.proofs.Tests.{eq-T, both-true, and-false-right, lt-or-ge}
 use Rattle.model.proofs.Places.{upTo-length, upTo-at}
@@ -161,24 +161,24 @@ module _ (w : List ℕ) where
   none-unspaced e = rw e
 
   pub digits-after : spaceAt w 1 ≡ true → lineDigits w ≡ wordDigits (drop 2 w)
-  unfolding isCardLine cardGroups
+  unfolding isCardLine cardRead
   digits-after e = rw e
 
   pub no-card-line : length (lineDigits w) ≡ 0 → isCardLine w ≡ false
-  unfolding isCardLine cardGroups
+  unfolding isCardLine cardRead
   no-card-line e = go (isCardLine w) refl e
     where
-      some : isCardLine w ≡ true → 1 ≤ length (cardDigits (cardGroups w))
+      some : isCardLine w ≡ true → 1 ≤ length (cardDigits (cardRead w))
       some f = some-digit (drop 2 w) (eq-T (both-true (spaceAt w 1) (inPrintedGroups false (drop 2 w)) f .1))
 
-      go : (x : Bool) → isCardLine w ≡ x → length (cond x (cardDigits (cardGroups w)) []) ≡ 0 → isCardLine w ≡ false
+      go : (x : Bool) → isCardLine w ≡ x → length (cond x (cardDigits (cardRead w)) []) ≡ 0 → isCardLine w ≡ false
       go true f z = absurd (omega (arith, some f))
       go false f z = f
 
   pub card-line : (length (lineDigits w) ≡ 0 → ⊥) → isCardLine w ≡ true
   card-line n = go (isCardLine w) refl n
     where
-      go : (x : Bool) → isCardLine w ≡ x → (length (cond x (cardDigits (cardGroups w)) []) ≡ 0 → ⊥) → isCardLine w ≡ true
+      go : (x : Bool) → isCardLine w ≡ x → (length (cond x (cardDigits (cardRead w)) []) ≡ 0 → ⊥) → isCardLine w ≡ true
       go true f m = f
       go false f m = absurd (m refl)
 

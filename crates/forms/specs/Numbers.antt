@@ -6,13 +6,13 @@ use lib.Dec.{leb}
 use lib.ListN.{length, getD, take}
 use Rattle.model.specs.Limits.{mostDigits}
 use Rattle.model.specs.Lists.{upTo}
-use Rattle.model.specs.Reader.{isCardLine, cardGroups}
+use Rattle.model.specs.Reader.{isCardLine, cardRead}
 use Rattle.model.specs.Opening.{cardDigits, isCardNumber}
 use Rattle.forms.specs.declared.cards.CardNumber.{CardNumber}
 
--- a card line's digits, of which there is one at least, and none of another line
+-- the digits of a line that has a card line's form after its letter, at least one; none of any other line
 abbrev pub lineDigits : List ℕ → List ℕ
-lineDigits w = cond (isCardLine w) (cardDigits (cardGroups w)) []
+lineDigits w = cond (isCardLine w) (cardDigits (cardRead w)) []
 
 -- the number of these digits: how many there are, and the first 19, zeros after the last
 abbrev pub inRow : List ℕ → CardNumber

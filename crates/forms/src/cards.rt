@@ -28,7 +28,7 @@ fn no_digits() -> CardNumber
     }
 }
 
-// A byte into the row, if it is a digit and the row reaches so far; how many digits it is.
+// Puts a digit at a place, if the row has that place: those past the 19th are counted, not kept. Answers how many digits the byte is.
 fn put_digit(digits: &mut [u8; 19], at: usize, x: u8) -> usize
     requires { ⌜ length (now digits) ≡ mostDigits ⌝ }
     ensures { λ r. ⌜ (r ≡ oneIf (isDigit x)) × (now (digits .exit) ≡ cond (isDigit x) (set (now (digits .entry)) at (digitOf x)) (now (digits .entry))) ⌝ }
@@ -43,13 +43,13 @@ fn put_digit(digits: &mut [u8; 19], at: usize, x: u8) -> usize
     1
 }
 
-// The digits of bytes that are digits, or hyphens between two of them.
+// The digits of bytes that are digits, with at most one hyphen between two of them; none of any other bytes.
 fn word_number(s: &[u8]) -> CardNumber
     ensures { λ r. ⌜ r ≡ inRow (wordDigits (now (s .entry))) ⌝ }
 {
     let mut digits = [0; 19];
     let mut count = 0;
-    // How many digits the byte before is.
+    // How many digits the byte before is: a hyphen needs one.
     let mut before = 0;
     for i in 0..s.len() {
         let x = s[i];
@@ -60,13 +60,14 @@ fn word_number(s: &[u8]) -> CardNumber
         before = taken;
         count += taken;
     }
+    // No byte, or a hyphen at the end.
     if before == 0 {
         return no_digits();
     }
     CardNumber { count, digits }
 }
 
-// A card line's number, of which questions 4 and 5 are asked; a line that is no card line has a number without digits.
+// The number of a line that begins with C, of which questions 4 and 5 are asked; it has no digits exactly if the line does not have the form.
 pub fn card_number(line: &[u8]) -> CardNumber
     ensures { λ r. ⌜ r ≡ inRow (lineDigits (now (line .entry))) ⌝ }
 {

@@ -46,25 +46,28 @@ both-parts xs ys = each-append (λ x. cond (eqb x (code "-")) [] (x ∷ [])) xs 
 digits-same : (ds : List ℕ) → withoutHyphens (map digit ds) ≡ map digit ds
 digits-same ds = none-taken (map digit ds) (digits-lack (code "-") (omega arith) ds)
 
--- a group, and what follows it
-group-then : (g r : List ℕ) (gs : List (List ℕ)) → withoutHyphens r ≡ map digit (flatten gs) → withoutHyphens (map digit g ++ r) ≡ map digit (flatten (g ∷ gs))
+-- a printed group, and what follows it
+printed-then : (g r : List ℕ) (gs : List (List ℕ)) → withoutHyphens r ≡ map digit (flatten gs) → withoutHyphens (map digit g ++ r) ≡ map digit (flatten (g ∷ gs))
 unfolding flatten
-group-then g r gs e = both-parts (map digit g) r ∙ rw (digits-same g, e) (sym (map-append digit g (flatten gs)))
+printed-then g r gs e = both-parts (map digit g) r ∙ rw (digits-same g, e) (sym (map-append digit g (flatten gs)))
 
 tail-digits : (gs : List (List ℕ)) → withoutHyphens (tail gs) ≡ map digit (flatten gs)
 unfolding flatten
 tail-digits [] = refl
-tail-digits (g ∷ gs) = group-then g (tail gs) gs (tail-digits gs)
+tail-digits (g ∷ gs) = printed-then g (tail gs) gs (tail-digits gs)
 
 word-digits : (gs : List (List ℕ)) → withoutHyphens (cardWord gs) ≡ map digit (cardDigits gs)
 unfolding flatten
 word-digits [] = refl
-word-digits (g ∷ gs) = group-then g (tail gs) gs (tail-digits gs)
+word-digits (g ∷ gs) = printed-then g (tail gs) gs (tail-digits gs)
 
-line-left : (l : Line) → withoutHyphens (printLine l) ≡ printLine (inOne l)
-line-left (card gs) =
+card-left : (gs : List (List ℕ)) → withoutHyphens (printLine (card gs)) ≡ printLine (card (cardDigits gs ∷ []))
+card-left gs =
     ap withoutHyphens (card-bytes gs)
     ∙ rw (word-digits gs, card-bytes (cardDigits gs ∷ []), append-nil (map digit (cardDigits gs)))
+
+line-left : (l : Line) → withoutHyphens (printLine l) ≡ printLine (inOne l)
+line-left (card gs) = card-left gs
 line-left (group g m) = group-same g m
 line-left (rule r) = rule-same r
 
@@ -128,6 +131,7 @@ answered-alike t ls g l =
 
 pub hyphens-aside : HyphensAside
 hyphens-aside = record {
+  cards = card-left;
   groups = group-same;
   rules = rule-same;
   opens = λ t b e. let a = opens-exactly t b .0 e in sym (answered-alike t (a .lines) (a .grammar) (a .short)) ∙ e;

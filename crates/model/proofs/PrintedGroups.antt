@@ -19,7 +19,7 @@ use Rattle.model.proofs.Letters.{digit-value, digit-letter}
 
 -- ---- printed groups are read
 
--- the groups after the first, each with its hyphen
+-- the printed groups after the first, each with its hyphen
 abbrev pub tail : List (List ℕ) → List ℕ
 tail gs = each (λ v. ascii "-" ++ v) (map (λ g. map digit g) gs)
 
@@ -66,7 +66,7 @@ groups-printed (g ∷ gs) t =
 
 -- ---- what is read is printed groups
 
--- digits in groups; only after a digit may the first be empty
+-- digits in printed groups; only after a digit may the first be empty
 record Grouped (a : Bool) (gs : List (List ℕ)) (xs : List ℕ) : Type 0 where
   first : List ℕ
   rest : List (List ℕ)

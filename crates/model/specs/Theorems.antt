@@ -11,10 +11,10 @@ use lib.ListN.{length}
 use Rattle.model.specs.Limits.{textLimit, cardLimit, transferSize, exchangeLimit, recordSize, proofLimit}
 use Rattle.model.specs.Lists.{isByte, every, each, ascii}
 use Rattle.model.specs.Questions.{ok, refused, done}
-use Rattle.model.specs.Grammar.{Rule, Line, group, rule, printLine, printText, wellFormed, InGrammar}
+use Rattle.model.specs.Grammar.{Rule, Line, card, group, rule, printLine, printText, wellFormed, InGrammar}
 use Rattle.model.specs.Reader.{readLine, hasNoLF, cut}
 use Rattle.model.specs.Book.{Book, noBook}
-use Rattle.model.specs.Opening.{withLine, addLine, addLines, opening, openedBook}
+use Rattle.model.specs.Opening.{cardDigits, withLine, addLine, addLines, opening, openedBook}
 use Rattle.model.specs.Transfers.{Exchange, _~_, exchangeOf}
 use Rattle.model.specs.Fairness.{Fair, Among}
 use Rattle.model.specs.Holdings.{State, Covered, MovedExactly, sumTo, total}
@@ -72,17 +72,20 @@ pub record GroupsRepeat : Type 0 where
 
 -- ---- Hyphens
 
--- bytes without hyphens: what the enrolment page stripped
+-- bytes without hyphens, as the enrolment page hands them on
 abbrev pub withoutHyphens : List ℕ → List ℕ
 withoutHyphens t = each (λ x. cond (eqb x (code "-")) [] (x ∷ [])) t
 
 pub record HyphensAside : Type 0 where
-  -- a text's hyphens are those of its card lines: no other line has one
+  -- a card line without them is its digits in one printed group
+  pub cards : (gs : List (List ℕ)) → withoutHyphens (printLine (card gs)) ≡ printLine (card (cardDigits gs ∷ []))
+  -- no other line has one
   pub groups : (g m : ℕ) → withoutHyphens (printLine (group g m)) ≡ printLine (group g m)
   pub rules : (r : Rule) → withoutHyphens (printLine (rule r)) ≡ printLine (rule r)
   -- a text that opens, opens without them as the same book
   pub opens : (t : List ℕ) (b : Book) → opening t ≡ ok b → opening (withoutHyphens t) ≡ ok b
-  -- the other way round up to question 1: a text in the grammar is answered as without them, be it with a refusal and its line
+  -- and the other way round: a text in the grammar (in which every hyphen has its place), short enough for question 1, has the answer of
+  -- the text without them, a refusal and its line too
   pub answers : (t : List ℕ) (lines : List Line) → InGrammar t lines → length t ≤ textLimit → opening t ≡ opening (withoutHyphens t)
 
 -- ---- Proofs and fairness

@@ -11,7 +11,7 @@ use lib.ListN.{length, getD, set}
 use borrow.Author.Tests.{eqb-true, eqb-false}
 use Rattle.model.specs.Limits.{cardLimit, ruleLimit, mostDigits, textLimit}
 use Rattle.model.specs.Questions.{Answer, ok, refused, Question, firstUnmet, andThen}
-use Rattle.model.specs.Reader.{groupOf, numberAt, cardGroups, cut}
+use Rattle.model.specs.Reader.{groupOf, numberAt, cardRead, cut}
 use Rattle.model.specs.Book.{Book, noBook}
 use Rattle.model.specs.Opening.{cardDigits, openLines, opening}
 use Rattle.model.proofs.Places.{upTo-length}
@@ -78,9 +78,9 @@ module _ (w cards rules : List ℕ) (sized : Sized cards rules) where
 
   card : getD w 0 0 ≡ code "C" → Line
   card first =
-      let asked = asks (cardQuestions (cardsOf cards) w) (CardAdded (cardDigits (cardGroups w)) cards) cards (λ z.
+      let asked = asks (cardQuestions (cardsOf cards) w) (CardAdded (cardDigits (cardRead w)) cards) cards (λ z.
       let room = card-room (cardsOf cards) w z in
-      a-card (cardDigits (cardGroups w)) cards (sized .cards-size) (omega (arith, room, how-many cards)) (room .2)) in
+      a-card (cardDigits (cardRead w)) cards (sized .cards-size) (omega (arith, room, how-many cards)) (room .2)) in
       record { refusal = _; next-cards = asked .0; next-rules = rules; taken = card-line sized first (record { asked = asked .1 }) }
 
   group : getD w 0 0 ≡ code "G" → Line

@@ -11,7 +11,7 @@ use Rattle.model.specs.Limits.{leastDigits, mostDigits}
 use Rattle.model.specs.Lists.{any, eqList}
 use Rattle.model.specs.Questions.{Question, firstUnmet}
 use Rattle.model.specs.CardNumbers.{luhn}
-use Rattle.model.specs.Reader.{groupOf, digitOf, widthOf, numberOf, numberWidth, numberAt, spaceAt, isCardLine, cardGroups, isGroupLine, hasHead, ownerEnd, ruleEnd, isRuleLine, kindOf, variableOf}
+use Rattle.model.specs.Reader.{groupOf, digitOf, widthOf, numberOf, numberWidth, numberAt, spaceAt, isCardLine, cardRead, isGroupLine, hasHead, ownerEnd, ruleEnd, isRuleLine, kindOf, variableOf}
 use Rattle.model.specs.Opening.{cardDigits, isCardNumber}
 use Rattle.model.proofs.Tests.{both-true}
 use Rattle.model.proofs.Places.{upTo-length}
@@ -102,14 +102,14 @@ module _ {w cards : List ℕ} where
     cards-full l = record { asked = refuses (rw (formed, how-many cards, le-ltb (cardCount cards) 32 l)) (omega arith) }
 
     module _ (room : cardCount cards < 32) where
-      pub card-wrong : isCardNumber (cardDigits (cardGroups w)) ≡ false → CardTaken w cards 4 cards
+      pub card-wrong : isCardNumber (cardDigits (cardRead w)) ≡ false → CardTaken w cards 4 cards
       card-wrong e = record { asked = refuses (rw (formed, how-many cards, lt-ltb (cardCount cards) 32 room, e)) (omega arith) }
 
-      module _ (number : isCardNumber (cardDigits (cardGroups w)) ≡ true) where
-        pub card-repeated : any (eqList (cardDigits (cardGroups w))) (cardsOf cards) ≡ true → CardTaken w cards 5 cards
+      module _ (number : isCardNumber (cardDigits (cardRead w)) ≡ true) where
+        pub card-repeated : any (eqList (cardDigits (cardRead w))) (cardsOf cards) ≡ true → CardTaken w cards 5 cards
         card-repeated e = record { asked = refuses (rw (formed, how-many cards, lt-ltb (cardCount cards) 32 room, number, e)) (omega arith) }
 
-        pub card-taken : any (eqList (cardDigits (cardGroups w))) (cardsOf cards) ≡ false → {cards′ : List ℕ} → CardAdded (cardDigits (cardGroups w)) cards cards′ → CardTaken w cards 0 cards′
+        pub card-taken : any (eqList (cardDigits (cardRead w))) (cardsOf cards) ≡ false → {cards′ : List ℕ} → CardAdded (cardDigits (cardRead w)) cards cards′ → CardTaken w cards 0 cards′
         card-taken e a = record { asked = takes (rw (formed, how-many cards, lt-ltb (cardCount cards) 32 room, number, e)) a }
 
 -- ---- a group line

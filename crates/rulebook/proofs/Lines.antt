@@ -13,7 +13,7 @@ use borrow.Author.Tests.{eq-eqb, ne-eqb, eqb-true, ltb-true, leb-true}
 use Rattle.model.specs.Questions.{ok, refused, Question, _unless_, inOrder, firstUnmet}
 use Rattle.model.specs.Limits.{cardLimit, ruleLimit, leastDigits, mostDigits}
 use Rattle.model.specs.Grammar.{Rule, Line, card, group, rule}
-use Rattle.model.specs.Reader.{groupOf, numberAt, isCardLine, cardGroups, isGroupLine, isRuleLine, ruleRead, someIf, readLine}
+use Rattle.model.specs.Reader.{groupOf, numberAt, isCardLine, cardRead, isGroupLine, isRuleLine, ruleRead, someIf, readLine}
 use Rattle.model.specs.Book.{Book}
 use Rattle.model.specs.Opening.{cardDigits, isCardNumber, lineQuestions, withLine, addLine, openLine}
 use Rattle.model.proofs.Tests.{both-true, zero-or-more}
@@ -63,7 +63,7 @@ met n false rest l e = absurd (omega (arith, l, e))
 
 -- ---- the three forms
 
-card-reads : (w : List ℕ) → getD w 0 0 ≡ code "C" → readLine w ≡ someIf (isCardLine w) (card (cardGroups w))
+card-reads : (w : List ℕ) → getD w 0 0 ≡ code "C" → readLine w ≡ someIf (isCardLine w) (card (cardRead w))
 unfolding readLine
 card-reads w e = rw (eq-eqb (getD w 0 0) (code "C") e)
 
@@ -86,11 +86,11 @@ owner-is w = refl
 
 -- what questions 3 and 4 say of a card that is taken
 pub card-room : (cards : List (List ℕ)) (w : List ℕ) → firstUnmet (cardQuestions cards w) ≡ 0
-    → (length cards < cardLimit) × (leastDigits ≤ length (cardDigits (cardGroups w))) × (length (cardDigits (cardGroups w)) ≤ mostDigits)
+    → (length cards < cardLimit) × (leastDigits ≤ length (cardDigits (cardRead w))) × (length (cardDigits (cardRead w)) ≤ mostDigits)
 card-room cards w e =
     let a = met 2 (isCardLine w) _ (omega arith) e in
     let b = met 3 (ltb (length cards) cardLimit) _ (omega arith) (a .1) in
-    let size = number-size (cardDigits (cardGroups w)) (met 4 (isCardNumber (cardDigits (cardGroups w))) _ (omega arith) (b .1) .0) in
+    let size = number-size (cardDigits (cardRead w)) (met 4 (isCardNumber (cardDigits (cardRead w))) _ (omega arith) (b .1) .0) in
     (ltb-true (length cards) cardLimit (b .0), size .0, size .1)
 
 -- what questions 2 and 6 say of a group line that is taken
@@ -115,14 +115,14 @@ rule-room cards rules w e =
 pub card-line : {w cards rules : List ℕ} → Sized cards rules → getD w 0 0 ≡ code "C" → {r : ℕ} {cards′ : List ℕ}
     → CardTaken w cards r cards′ → LineTaken w cards rules r cards′ rules
 card-line {w} {cards} {rules} sized first {r} {cards′} h = record {
-  answer = line-answer w cards rules cards′ rules (card (cardGroups w)) (isCardLine w) (card-reads w first) r (rw (cards-are cards rules) (h .asked .refusal-is)) new;
+  answer = line-answer w cards rules cards′ rules (card (cardRead w)) (isCardLine w) (card-reads w first) r (rw (cards-are cards rules) (h .asked .refusal-is)) new;
   sized = record { cards-size = kept-size (h .asked) (λ u a. a .size) ∙ sized .cards-size; rules-size = sized .rules-size };
 }
   where
-    new : r ≡ 0 → bookOf cards′ rules ≡ withLine (bookOf cards rules) (card (cardGroups w))
+    new : r ≡ 0 → bookOf cards′ rules ≡ withLine (bookOf cards rules) (card (cardRead w))
     new z =
         let room = card-room (cardsOf cards) w (sym (h .asked .refusal-is) ∙ z) in
-        card-grown (cardGroups w) (h .asked .added z) (room .1) (room .2) rules
+        card-grown (cardRead w) (h .asked .added z) (room .1) (room .2) rules
 
 pub group-line : {w cards rules : List ℕ} → Sized cards rules → getD w 0 0 ≡ code "G" → {r : ℕ} {cards′ : List ℕ}
     → GroupTaken w cards r cards′ → LineTaken w cards rules r cards′ rules

@@ -41,6 +41,7 @@ pub(crate) fn take(line: &[u8], cards: &mut CardTable) -> u8
     ensures { λ r. ⌜ CardTaken (now (line .entry)) (now (cards .entry)) r (now (cards .exit)) ⌝ }
 {
     let number = forms::card_number(line);
+    // A line that has the form has a digit.
     if number.count == 0 {
         return answers::NO_FORM;
     }

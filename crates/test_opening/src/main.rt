@@ -132,14 +132,20 @@ fn hyphens() {
     show_all(
         b"three printed groups:C 7000-1200-0019\n;\
           one hyphen:C 7-00012000019\n;\
+          one hyphen before the check digit:C 70001200001-9\n;\
           12 digits, 11 hyphens:C 7-0-0-0-1-2-0-0-0-0-1-9\n;\
           19 digits, 18 hyphens:C 7-0-0-0-1-2-0-0-0-0-0-0-0-0-0-0-0-0-8\n;\
-          11 digits in groups:C 7000-1200-008\n;\
-          20 digits in groups:C 7000-1200-0000-0000-0001\n;\
-          wrong check digit in groups:C 7000-1200-0018\n;\
-          in groups after without:C 700012000019\nC 7000-1200-0019\n;\
-          without after in groups:C 7000-1200-0019\nC 700012000019\n;\
-          in other groups:C 7000-1200-0019\nC 70-0012-000019\n;\
+          11 digits in printed groups:C 7000-1200-008\n;\
+          20 digits in printed groups:C 7000-1200-0000-0000-0001\n;\
+          20 digits, the first 19 a card:C 70001200000000000084\n;\
+          the same in printed groups:C 7000-1200-0000-0000-0084\n;\
+          two digits, one hyphen:C 1-2\n;\
+          wrong check digit in printed groups:C 7000-1200-0018\n;\
+          in printed groups after without:C 700012000019\nC 7000-1200-0019\n;\
+          without after in printed groups:C 7000-1200-0019\nC 700012000019\n;\
+          in other printed groups:C 7000-1200-0019\nC 70-0012-000019\n;\
+          two cards in printed groups:C 7000-1200-0019\nC 7000-1200-0027\n;\
+          wrong check digit before a hyphen alone:C 7000-1200-0018\nC -\n;\
           leading hyphen:C -7000-1200-0019\n;\
           trailing hyphen:C 7000-1200-0019-\n;\
           doubled hyphen:C 7000--1200-0019\n;\
@@ -147,10 +153,12 @@ fn hyphens() {
           two hyphens alone:C --\n;\
           hyphen before the space:C- 7000-1200-0019\n;\
           hyphen for the space:C-700012000019\n;\
-          two spaces before groups:C  7000-1200-0019\n;\
+          two spaces before printed groups:C  7000-1200-0019\n;\
           space in place of a hyphen:C 7000 1200 0019\n;\
-          groups without LF:C 7000-1200-0019;\
-          groups and CR:C 7000-1200-0019\r\n;\
+          full stop in place of a hyphen:C 7000.1200.0019\n;\
+          en dash in place of a hyphen:C 7000\xe2\x80\x931200-0019\n;\
+          printed groups without LF:C 7000-1200-0019;\
+          printed groups and CR:C 7000-1200-0019\r\n;\
           hyphen in a group line:C 700012000019\nG 1-1\n;\
           hyphen after m:C 700012000019\nG 1 1-\n;\
           hyphen in a rule line:C 700012000019\nR 1-A a\n;\
@@ -159,11 +167,11 @@ fn hyphens() {
     );
 }
 
-// The text of what is first, a line so many times, and what is last.
-fn show_repeated(label: &[u8], first: &[u8], line: &[u8], times: usize, last: &[u8]) {
+// The text of what is first, a piece so many times, and what is last.
+fn show_repeated(label: &[u8], first: &[u8], piece: &[u8], times: usize, last: &[u8]) {
     let mut buffer = [0u8; 20_000];
     let begun = texts::put(&mut buffer, 0, first);
-    let repeated = texts::repeat(&mut buffer, begun, line, times);
+    let repeated = texts::repeat(&mut buffer, begun, piece, times);
     let end = texts::put(&mut buffer, repeated, last);
     show(label, &buffer[..end]);
 }
@@ -200,7 +208,13 @@ fn show_limit(label: &[u8], cards: u8, line: &[u8], times: usize, last: &[u8]) {
 fn limits() {
     show_limit(b"32 cards", 32, b"", 0, b"");
     show_limit(b"33 cards", 32, b"C 1\n", 1, b"");
-    show_limit(b"33rd card in groups", 32, b"C 7000-1200-0019\n", 1, b"");
+    show_limit(
+        b"33rd card in printed groups",
+        32,
+        b"C 7000-1200-0019\n",
+        1,
+        b"",
+    );
     show_limit(b"33rd card with a doubled hyphen", 32, b"C 1--2\n", 1, b"");
     show_limit(b"56 rules", 1, b"R 1 A a\n", 56, b"");
     show_limit(b"57 rules", 1, b"R 1 A a\n", 57, b"");

@@ -1,5 +1,6 @@
-//! A second token exchange engine in plain Rust, written from document 01 alone, with a
-//! fairness decider, a proof search and a generator, so that tests can set it beside the real one.
+//! A second token exchange engine in plain Rust, written from document 01 and the requests alone,
+//! with a fairness decider, a proof search and a generator, so that tests can set it beside the
+//! real one.
 
 #![forbid(unsafe_code)]
 

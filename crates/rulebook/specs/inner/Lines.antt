@@ -8,7 +8,7 @@ use lib.ListN.{length, getD, replicate}
 use Rattle.model.specs.Limits.{cardLimit, ruleLimit}
 use Rattle.model.specs.Lists.{within, any, eqList}
 use Rattle.model.specs.Questions.{Answer, ok, refused, Question, _unless_, firstUnmet}
-use Rattle.model.specs.Reader.{groupOf, numberAt, isCardLine, cardGroups, isGroupLine, isRuleLine}
+use Rattle.model.specs.Reader.{groupOf, numberAt, isCardLine, cardRead, isGroupLine, isRuleLine}
 use Rattle.model.specs.Book.{Book}
 use Rattle.model.specs.Opening.{cardDigits, isCardNumber, openLine}
 use Rattle.rulebook.specs.Layout.{cardTableSize, ruleTableSize}
@@ -22,8 +22,8 @@ abbrev pub cardQuestions : List (List ℕ) → List ℕ → List Question
 cardQuestions cards w =
     (2 unless isCardLine w) ∷
     (3 unless ltb (length cards) cardLimit) ∷
-    (4 unless isCardNumber (cardDigits (cardGroups w))) ∷
-    (5 unless not (any (eqList (cardDigits (cardGroups w))) cards)) ∷ []
+    (4 unless isCardNumber (cardDigits (cardRead w))) ∷
+    (5 unless not (any (eqList (cardDigits (cardRead w))) cards)) ∷ []
 
 abbrev pub groupQuestions : ℕ → List ℕ → List Question
 groupQuestions cards w = (2 unless isGroupLine w) ∷ (6 unless within (numberAt w 4) cards) ∷ []
@@ -40,7 +40,7 @@ pub record AddedUnless (questions : List Question) (Added : List ℕ → Type 0)
   pub kept : (refusal ≡ 0 → ⊥) → table′ ≡ table
 
 pub record CardTaken (w cards : List ℕ) (refusal : ℕ) (cards′ : List ℕ) : Type 0 where
-  pub asked : AddedUnless (cardQuestions (cardsOf cards) w) (CardAdded (cardDigits (cardGroups w)) cards) refusal cards cards′
+  pub asked : AddedUnless (cardQuestions (cardsOf cards) w) (CardAdded (cardDigits (cardRead w)) cards) refusal cards cards′
 
 pub record GroupTaken (w cards : List ℕ) (refusal : ℕ) (cards′ : List ℕ) : Type 0 where
   pub asked : AddedUnless (groupQuestions (cardCount cards) w) (MemberAdded (groupOf (getD w 2 0)) (numberAt w 4) cards) refusal cards cards′

@@ -7,7 +7,7 @@ use native.Mathlib.Omega.{arith}
 use borrow.Author.Tests.{not-true, not-false}
 use lib.ListN.{length}
 use Rattle.model.specs.Limits.{cardLimit, mostDigits}
-use Rattle.model.specs.Reader.{isCardLine, cardGroups}
+use Rattle.model.specs.Reader.{isCardLine, cardRead}
 use Rattle.model.specs.Opening.{cardDigits, isCardNumber}
 use Rattle.forms.specs.Numbers.{inRow, digitsIn, isNumberIn}
 use Rattle.forms.proofs.Digits.{no-card-line, card-line, in-row, number-is}
@@ -29,7 +29,7 @@ abbrev line-of : tie.Else1 → List ℕ
 line-of c = c .before .before .before .before .args .line .now
 
 abbrev card-of : tie.Else1 → List ℕ
-card-of c = cardDigits (cardGroups (line-of c))
+card-of c = cardDigits (cardRead (line-of c))
 
 -- the line has the form
 formed : (c : tie.Else1) → isCardLine (line-of c) ≡ true
