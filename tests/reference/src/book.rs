@@ -149,7 +149,7 @@ impl Book {
 
     fn add(&mut self, line: &[u8]) -> Result<(), u8> {
         match Line::read(line).ok_or(2)? {
-            Line::Card(number) => self.add_card(&number),
+            Line::Card(printed) => self.add_card(&Number::read(printed).ok_or(2)?),
             Line::Group { bit, card } => {
                 if !self.declares(card.into()) {
                     return Err(6);
@@ -175,7 +175,7 @@ impl Book {
             return Err(3);
         }
         let digits = number.digits;
-        let length = usize::from(number.length);
+        let length = number.length;
         if !(MIN_DIGITS..=MAX_DIGITS).contains(&length) || !passes_luhn(&digits[..length]) {
             return Err(4);
         }
@@ -213,26 +213,47 @@ pub fn passes_luhn(text: &[u8]) -> bool {
 }
 
 /// A card line's digits without its hyphens: as many of the first as a card may have, and how many
-/// there are, which is less than the bytes of a text.
+/// there are.
 struct Number {
     digits: Digits,
-    length: u16,
+    length: usize,
 }
 
-/// A line that has one of the three forms.
-enum Line {
-    Card(Number),
+impl Number {
+    /// Digits, with one hyphen or none between two of them.
+    fn read(printed: &[u8]) -> Option<Number> {
+        let mut digits = [0; MAX_DIGITS];
+        let mut length = 0;
+        let mut after_digit = false;
+        for &byte in printed {
+            if byte.is_ascii_digit() {
+                if length < MAX_DIGITS {
+                    digits[length] = byte;
+                }
+                length += 1;
+            } else if byte != b'-' || !after_digit {
+                return None;
+            }
+            after_digit = byte != b'-';
+        }
+        after_digit.then_some(Number { digits, length })
+    }
+}
+
+/// A line that has one of the three forms, but for a card's digits and hyphens, which `Number` reads.
+enum Line<'t> {
+    Card(&'t [u8]),
     Group { bit: u8, card: u8 },
     Rule(Rule),
 }
 
-impl Line {
-    fn read(line: &[u8]) -> Option<Line> {
+impl<'t> Line<'t> {
+    fn read(line: &'t [u8]) -> Option<Line<'t>> {
         let mut rest = Rest(line.strip_suffix(b"\n")?);
         let letter = rest.next()?;
         rest.literal(b" ")?;
         let line = match letter {
-            b'C' => Line::Card(rest.number()?),
+            b'C' => Line::Card(mem::take(&mut rest.0)),
             b'G' => {
                 let bit = rest.group()?;
                 rest.literal(b" ")?;
@@ -265,27 +286,6 @@ impl Rest<'_> {
     fn within(&mut self, first: u8, last: u8) -> Option<u8> {
         let byte = self.next()?;
         (first..=last).contains(&byte).then(|| byte - first)
-    }
-
-    /// All that is left: digits, with one hyphen or none between two of them.
-    fn number(&mut self) -> Option<Number> {
-        let mut digits = [0; MAX_DIGITS];
-        let mut length = 0;
-        let mut after_digit = false;
-        for &byte in mem::take(&mut self.0) {
-            match byte {
-                b'0'..=b'9' => {
-                    if let Some(place) = digits.get_mut(usize::from(length)) {
-                        *place = byte;
-                    }
-                    length += 1;
-                }
-                b'-' if after_digit => (),
-                _ => return None,
-            }
-            after_digit = byte != b'-';
-        }
-        after_digit.then_some(Number { digits, length })
     }
 
     fn group(&mut self) -> Option<u8> {
