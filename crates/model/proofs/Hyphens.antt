@@ -3,24 +3,26 @@
 use mathlib.Core.Path.{_≡_, refl, sym, _∙_, ap}
 use mathlib.Core.Bool.{Bool, true, false, cond}
 use mathlib.Core.List.{List, [], _∷_, _++_, map, flatten, append-nil, map-append}
+use mathlib.Core.Logic.{_≢_}
 use Prim.Native.Char.{code}
 use Prim.Native.Nat.{ℕ, suc, _+_, _≤_}
 use native.Mathlib.Omega.{arith}
 use lib.Dec.{T, eqb, leb}
-use lib.ListN.{length, length-append}
+use lib.ListN.{length, length-append, length-map}
 use Rattle.model.specs.Limits.{textLimit}
 use Rattle.model.specs.Lists.{every, ascii}
 use Rattle.model.specs.Questions.{Answer, ok, refused, andThen}
 use Rattle.model.specs.Grammar.{Rule, Line, card, group, rule, digit, cardWord, words, printLine, printText, isPrintedGroup, wellFormed, InGrammar}
 use Rattle.model.specs.Book.{Book, noBook}
 use Rattle.model.specs.Opening.{cardDigits, addLine, addLines, opening}
-use Rattle.model.specs.Theorems.{withoutHyphens, HyphensAside}
+use Rattle.model.specs.Theorems.{withoutHyphens, HyphensAside, formless, unmet, FirstFailure, long, line}
 use Rattle.model.proofs.Tests.{and, both, every-append, ne-eqb}
 use Rattle.model.proofs.Facts.{facts}
 use Rattle.model.proofs.Words.{each-append, card-bytes}
 use Rattle.model.proofs.PrintedGroups.{tail}
 use Rattle.model.proofs.Absent.{lacks, joined-lack, digits-lack, group-lacks, rule-lacks}
-use Rattle.model.proofs.Texts.{opened-by-lines, opens-exactly}
+use Rattle.model.proofs.Cuts.{ended}
+use Rattle.model.proofs.Texts.{opened-by-lines, refused-by-line, opens-exactly, refused-at-first}
 
 -- ---- what is left of a line
 
@@ -121,19 +123,46 @@ lines-taken i b (l ∷ ls) = rw (line-taken i b l) (go (addLine i b l) (λ c. li
     go (ok c) r = r c
     go (refused n j) r = refl
 
--- ---- the statement
+-- ---- a text that opens, and one that is refused at a line
 
-answered-alike : (t : List ℕ) (ls : List Line) → InGrammar t ls → length t ≤ textLimit → opening t ≡ opening (withoutHyphens t)
-answered-alike t ls g l =
+alike : {t : List ℕ} {ls : List Line} → InGrammar t ls → length t ≤ textLimit → opening (withoutHyphens t) ≡ opening t
+alike {t} {ls} g l =
     let left : InGrammar (withoutHyphens t) (map inOne ls) =
     record { printed = rw (← g .printed) (sym (text-left ls)); formed = text-formed ls (g .formed) } in
-    opened-by-lines g l ∙ sym (opened-by-lines left (omega (arith, shorter t)) ∙ lines-taken 1 noBook ls)
+    opened-by-lines left (omega (arith, shorter t)) ∙ lines-taken 1 noBook ls ∙ sym (opened-by-lines g l)
+
+-- what follows the text's lines `above`, with line l first, without its hyphens
+rest-left : (above : List Line) (l : Line) (more : List ℕ)
+    → withoutHyphens (printText above ++ ended (printLine l) more) ≡ printText (map inOne above) ++ ended (printLine (inOne l)) (withoutHyphens more)
+rest-left above l more =
+    both-parts (printText above) (ended (printLine l) more)
+    ∙ rw (text-left above, both-parts (printLine l ++ ascii "\n") more, both-parts (printLine l) (ascii "\n"), line-left l)
+
+alike-refused : {t : List ℕ} {n i : ℕ} → opening t ≡ refused n i → FirstFailure t n i
+    → ((j : ℕ) → opening t ≢ refused 1 j) → ((j : ℕ) → opening t ≢ refused 2 j) → opening (withoutHyphens t) ≡ refused n i
+alike-refused e (long l) no1 no2 = absurd (no1 0 e)
+alike-refused e (line above rest l f p a (formless x y)) no1 no2 = absurd (no2 (1 + length above) e)
+alike-refused {t} {n} e (line {b = c} above rest l f p a (unmet k more w q r)) no1 no2 =
+    let text : printText above ++ ended (printLine k) more ≡ t = ap (λ (u : List ℕ). printText above ++ u) q ∙ p in
+    let left : withoutHyphens t ≡ printText (map inOne above) ++ ended (printLine (inOne k)) (withoutHyphens more) = rw (← text) (rest-left above k more) in
+    let short : length (withoutHyphens t) ≤ textLimit = omega (arith, shorter t) in
+    let refuses : addLine (1 + length (map inOne above)) c (inOne k) ≡ refused n (1 + length above) = rw (length-map above inOne) (line-taken (1 + length above) c k ∙ r) in
+    ap opening left
+    ∙ refused-by-line (inOne k) (withoutHyphens more) (line-formed k w) (map inOne above) (text-formed above f) (lines-taken 1 noBook above ∙ a) refuses (rw left at short)
+
+-- ---- the statement
 
 pub hyphens-aside : HyphensAside
 hyphens-aside = record {
   cards = card-left;
   groups = group-same;
   rules = rule-same;
-  opens = λ t b e. let a = opens-exactly t b .0 e in sym (answered-alike t (a .lines) (a .grammar) (a .short)) ∙ e;
-  answers = answered-alike;
+  opens = λ t b e. let a = opens-exactly t b .0 e in alike (a .grammar) (a .short) ∙ e;
+  back = λ t ls b g l e. sym (alike g l) ∙ e;
+  same = λ t no1 no2. by-answer t (opening t) refl no1 no2;
 }
+  where
+    by-answer : (t : List ℕ) (a : Answer Book) → opening t ≡ a → ((i : ℕ) → opening t ≢ refused 1 i) → ((i : ℕ) → opening t ≢ refused 2 i)
+        → opening (withoutHyphens t) ≡ opening t
+    by-answer t (ok b) e no1 no2 = let a = opens-exactly t b .0 e in alike (a .grammar) (a .short)
+    by-answer t (refused n i) e no1 no2 = alike-refused e (refused-at-first t n i e) no1 no2 ∙ sym e

@@ -76,17 +76,19 @@ pub record GroupsRepeat : Type 0 where
 abbrev pub withoutHyphens : List ℕ → List ℕ
 withoutHyphens t = each (λ x. cond (eqb x (code "-")) [] (x ∷ [])) t
 
+-- A text and the same text without its hyphens, which are those of its card lines.
 pub record HyphensAside : Type 0 where
-  -- a card line without them is its digits in one printed group
+  -- a card line without hyphens is its digits in one printed group
   pub cards : (gs : List (List ℕ)) → withoutHyphens (printLine (card gs)) ≡ printLine (card (cardDigits gs ∷ []))
-  -- no other line has one
+  -- no other line has a hyphen
   pub groups : (g m : ℕ) → withoutHyphens (printLine (group g m)) ≡ printLine (group g m)
   pub rules : (r : Rule) → withoutHyphens (printLine (rule r)) ≡ printLine (rule r)
-  -- a text that opens, opens without them as the same book
+  -- a text that opens, opens without its hyphens as the same book
   pub opens : (t : List ℕ) (b : Book) → opening t ≡ ok b → opening (withoutHyphens t) ≡ ok b
-  -- and the other way round: a text in the grammar (in which every hyphen has its place), short enough for question 1, has the answer of
-  -- the text without them, a refusal and its line too
-  pub answers : (t : List ℕ) (lines : List Line) → InGrammar t lines → length t ≤ textLimit → opening t ≡ opening (withoutHyphens t)
+  -- and the other way round up to question 1, of a text in the grammar, in which every hyphen has its place
+  pub back : (t : List ℕ) (lines : List Line) (b : Book) → InGrammar t lines → length t ≤ textLimit → opening (withoutHyphens t) ≡ ok b → opening t ≡ ok b
+  -- a text that is not refused by 1 or 2 is answered as without its hyphens: a refusal, too, is the same at the same line
+  pub same : (t : List ℕ) → ((i : ℕ) → opening t ≢ refused 1 i) → ((i : ℕ) → opening t ≢ refused 2 i) → opening (withoutHyphens t) ≡ opening t
 
 -- ---- Proofs and fairness
 
