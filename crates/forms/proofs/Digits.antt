@@ -98,7 +98,7 @@ module _ (ds : List ℕ) (d : ℕ) where
           ∙ List·getD-eq-default ds 0 {n = k} (omega arith)
           ∙ sym (List·getD-eq-default (ds ++ (d ∷ [])) 0 {n = k} (omega (arith, length-append ds (d ∷ []))))
 
-  pub row-more : set (inRow ds .digits) (length ds) d ≡ inRow (ds ++ (d ∷ [])) .digits
+  row-more : set (inRow ds .digits) (length ds) d ≡ inRow (ds ++ (d ∷ [])) .digits
   row-more =
       let e : ℕ → ℕ = λ k. getD (ds ++ (d ∷ [])) k 0 in
       let size = length-set (inRow ds .digits) (length ds) d ∙ upTo-length (λ j. getD ds j 0) mostDigits in
@@ -175,8 +175,8 @@ module _ (w : List ℕ) where
       go true f z = absurd (omega (arith, some f))
       go false f z = f
 
-  pub card-line : (length (lineDigits w) ≡ 0 → ⊥) → isCardLine w ≡ true
-  card-line n = go (isCardLine w) refl n
+  pub is-card-line : (length (lineDigits w) ≡ 0 → ⊥) → isCardLine w ≡ true
+  is-card-line n = go (isCardLine w) refl n
     where
       go : (x : Bool) → isCardLine w ≡ x → (length (cond x (cardDigits (cardRead w)) []) ≡ 0 → ⊥) → isCardLine w ≡ true
       go true f m = f

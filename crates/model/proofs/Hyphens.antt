@@ -131,18 +131,17 @@ alike {t} {ls} g l =
     record { printed = rw (← g .printed) (sym (text-left ls)); formed = text-formed ls (g .formed) } in
     opened-by-lines left (omega (arith, shorter t)) ∙ lines-taken 1 noBook ls ∙ sym (opened-by-lines g l)
 
--- what follows the text's lines `above`, with line l first, without its hyphens
+-- a text of the lines `above`, line l and what follows it, without its hyphens
 rest-left : (above : List Line) (l : Line) (more : List ℕ)
     → withoutHyphens (printText above ++ ended (printLine l) more) ≡ printText (map inOne above) ++ ended (printLine (inOne l)) (withoutHyphens more)
 rest-left above l more =
     both-parts (printText above) (ended (printLine l) more)
     ∙ rw (text-left above, both-parts (printLine l ++ ascii "\n") more, both-parts (printLine l) (ascii "\n"), line-left l)
 
-alike-refused : {t : List ℕ} {n i : ℕ} → opening t ≡ refused n i → FirstFailure t n i
-    → ((j : ℕ) → opening t ≢ refused 1 j) → ((j : ℕ) → opening t ≢ refused 2 j) → opening (withoutHyphens t) ≡ refused n i
-alike-refused e (long l) no1 no2 = absurd (no1 0 e)
-alike-refused e (line above rest l f p a (formless x y)) no1 no2 = absurd (no2 (1 + length above) e)
-alike-refused {t} {n} e (line {b = c} above rest l f p a (unmet k more w q r)) no1 no2 =
+alike-refused : {t : List ℕ} {n i : ℕ} → n ≢ 1 → n ≢ 2 → FirstFailure t n i → opening (withoutHyphens t) ≡ refused n i
+alike-refused no1 no2 (long l) = absurd (no1 refl)
+alike-refused no1 no2 (line above rest l f p a (formless x y)) = absurd (no2 refl)
+alike-refused {t} {n} no1 no2 (line {b = c} above rest l f p a (unmet k more w q r)) =
     let text : printText above ++ ended (printLine k) more ≡ t = ap (λ (u : List ℕ). printText above ++ u) q ∙ p in
     let left : withoutHyphens t ≡ printText (map inOne above) ++ ended (printLine (inOne k)) (withoutHyphens more) = rw (← text) (rest-left above k more) in
     let short : length (withoutHyphens t) ≤ textLimit = omega (arith, shorter t) in
@@ -159,10 +158,5 @@ hyphens-aside = record {
   rules = rule-same;
   opens = λ t b e. let a = opens-exactly t b .0 e in alike (a .grammar) (a .short) ∙ e;
   back = λ t ls b g l e. sym (alike g l) ∙ e;
-  same = λ t no1 no2. by-answer t (opening t) refl no1 no2;
+  refuses = λ t n i no1 no2 e. alike-refused no1 no2 (refused-at-first t n i e);
 }
-  where
-    by-answer : (t : List ℕ) (a : Answer Book) → opening t ≡ a → ((i : ℕ) → opening t ≢ refused 1 i) → ((i : ℕ) → opening t ≢ refused 2 i)
-        → opening (withoutHyphens t) ≡ opening t
-    by-answer t (ok b) e no1 no2 = let a = opens-exactly t b .0 e in alike (a .grammar) (a .short)
-    by-answer t (refused n i) e no1 no2 = alike-refused e (refused-at-first t n i e) no1 no2 ∙ sym e

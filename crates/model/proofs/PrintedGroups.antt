@@ -1,4 +1,4 @@
--- A card's digits in printed groups: the bytes that they print are read back as these groups, no other bytes are read, and the card is
+-- A card's digits in printed groups: the bytes that they print are read back as these printed groups, no other bytes are read, and the card is
 -- the digits among the bytes.
 use mathlib.Core.Path.{_≡_, refl, _∙_, ap}
 use mathlib.Core.Bool.{Bool, true, false, _&&_, _||_, cond}
@@ -31,20 +31,20 @@ digits-pass (d ∷ g) r t =
     let v = digit-value d (f .0) in
     rw (v, le-leb d 9 (f .0)) (digits-pass g r (f .1))
 
-group-passes : (a : Bool) (g r : List ℕ) → T (isPrintedGroup g) → inPrintedGroups a (map digit g ++ r) ≡ inPrintedGroups true r
+printed-group-passes : (a : Bool) (g r : List ℕ) → T (isPrintedGroup g) → inPrintedGroups a (map digit g ++ r) ≡ inPrintedGroups true r
 unfolding inPrintedGroups
-group-passes a [] r t = absurd t
-group-passes a (d ∷ g) r t =
+printed-group-passes a [] r t = absurd t
+printed-group-passes a (d ∷ g) r t =
     let f = simp facts at t in
     let v = digit-value d (f .1 .0) in
     rw (v, le-leb d 9 (f .1 .0)) (digits-pass g r (f .1 .1))
 
-group-read : (g r : List ℕ) (gs : List (List ℕ)) → T (every (λ d. leb d 9) g) → printedGroups r ≡ [] ∷ gs → printedGroups (map digit g ++ r) ≡ g ∷ gs
+printed-group-read : (g r : List ℕ) (gs : List (List ℕ)) → T (every (λ d. leb d 9) g) → printedGroups r ≡ [] ∷ gs → printedGroups (map digit g ++ r) ≡ g ∷ gs
 unfolding printedGroups
-group-read [] r gs t e = e
-group-read (d ∷ g) r gs t e =
+printed-group-read [] r gs t e = e
+printed-group-read (d ∷ g) r gs t e =
     let f = simp facts at t in
-    rw (digit-value d (f .0), le-leb d 9 (f .0), group-read g r gs (f .1) e)
+    rw (digit-value d (f .0), le-leb d 9 (f .0), printed-group-read g r gs (f .1) e)
 
 tail-read : (gs : List (List ℕ)) → T (every isPrintedGroup gs) → (inPrintedGroups true (tail gs) ≡ true) × (printedGroups (tail gs) ≡ [] ∷ gs)
 unfolding inPrintedGroups printedGroups digitOf
@@ -53,16 +53,16 @@ tail-read (g ∷ gs) t =
     let f = both (isPrintedGroup g) _ t in
     let h = simp facts at (f .0) in
     let r = tail-read gs (f .1) in
-    (group-passes false g (tail gs) (f .0) ∙ r .0, rw (group-read g (tail gs) gs (h .1) (r .1)))
+    (printed-group-passes false g (tail gs) (f .0) ∙ r .0, rw (printed-group-read g (tail gs) gs (h .1) (r .1)))
 
-pub groups-printed : (gs : List (List ℕ)) → T (leb 1 (length gs) && every isPrintedGroup gs)
+pub printed-groups-read : (gs : List (List ℕ)) → T (leb 1 (length gs) && every isPrintedGroup gs)
     → T (inPrintedGroups false (cardWord gs)) × (printedGroups (cardWord gs) ≡ gs)
-groups-printed [] t = absurd t
-groups-printed (g ∷ gs) t =
+printed-groups-read [] t = absurd t
+printed-groups-read (g ∷ gs) t =
     let f = both (isPrintedGroup g) _ (both (leb 1 (length (g ∷ gs))) _ t .1) in
     let h = simp facts at (f .0) in
     let r = tail-read gs (f .1) in
-    (rw (group-passes false g (tail gs) (f .0), r .0) tt, group-read g (tail gs) gs (h .1) (r .1))
+    (rw (printed-group-passes false g (tail gs) (f .0), r .0) tt, printed-group-read g (tail gs) gs (h .1) (r .1))
 
 -- ---- what is read is printed groups
 
@@ -119,9 +119,9 @@ grouped a (x ∷ xs) t = go a (isDigit x) refl (isHyphen x) refl (λ b. grouped 
     go true false e false k r t = absurd t
     go false false e h k r t = absurd t
 
-pub groups-taken : (xs : List ℕ) → T (inPrintedGroups false xs) → let gs = printedGroups xs in
+pub printed-groups-taken : (xs : List ℕ) → T (inPrintedGroups false xs) → let gs = printedGroups xs in
     (cardWord gs ≡ xs) × T (leb 1 (length gs) && every isPrintedGroup gs)
-groups-taken xs t =
+printed-groups-taken xs t =
     let r = grouped false xs t in
     rw (r .cut) (r .printed, and (leb 1 (length (r .first ∷ r .rest))) _ (simp facts (omega arith)) (all-formed r))
 

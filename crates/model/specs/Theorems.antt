@@ -85,10 +85,10 @@ pub record HyphensAside : Type 0 where
   pub rules : (r : Rule) → withoutHyphens (printLine (rule r)) ≡ printLine (rule r)
   -- a text that opens, opens without its hyphens as the same book
   pub opens : (t : List ℕ) (b : Book) → opening t ≡ ok b → opening (withoutHyphens t) ≡ ok b
-  -- and the other way round up to question 1, of a text in the grammar, in which every hyphen has its place
+  -- a text in the grammar, in which every hyphen has its place, opens if it is short enough for question 1 and opens without its hyphens
   pub back : (t : List ℕ) (lines : List Line) (b : Book) → InGrammar t lines → length t ≤ textLimit → opening (withoutHyphens t) ≡ ok b → opening t ≡ ok b
-  -- a text that is not refused by 1 or 2 is answered as without its hyphens: a refusal, too, is the same at the same line
-  pub same : (t : List ℕ) → ((i : ℕ) → opening t ≢ refused 1 i) → ((i : ℕ) → opening t ≢ refused 2 i) → opening (withoutHyphens t) ≡ opening t
+  -- a text that is refused by another question than 1 and 2 is refused by it without its hyphens, at the same line
+  pub refuses : (t : List ℕ) (n i : ℕ) → n ≢ 1 → n ≢ 2 → opening t ≡ refused n i → opening (withoutHyphens t) ≡ refused n i
 
 -- ---- Proofs and fairness
 

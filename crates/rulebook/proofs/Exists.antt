@@ -28,7 +28,7 @@ use Rattle.rulebook.proofs.Written.{written-none, written-more, byte-wr
 use Rattle.rulebook.proofs.Rows.{row-length}
 use Rattle.rulebook.proofs.Grown.{no-tables}
 use Rattle.rulebook.proofs.Forms.{how-many}
-use Rattle.rulebook.proofs.Lines.{card-room, joined, rule-room, card-line, group-line, rule-line, no-line}
+use Rattle.rulebook.proofs.Lines.{card-room, group-room, rule-room, card-line, group-line, rule-line, no-line}
 use Rattle.rulebook.proofs.Texts.{empty, empty-sized, reads-refused, reads-done}
 
 -- ---- a row written
@@ -86,7 +86,7 @@ module _ (w cards rules : List ℕ) (sized : Sized cards rules) where
   group : getD w 0 0 ≡ code "G" → Line
   group first =
       let asked = asks (groupQuestions (cardCount cards) w) (MemberAdded (groupOf (getD w 2 0)) (numberAt w 4) cards) cards (λ z.
-      let j = joined cards w z in
+      let j = group-room cards w z in
       (_, member-added (groupOf (getD w 2 0)) (numberAt w 4) cards (j .numbers .group-low) (j .numbers .group-high) (j .numbers .card-low) (j .card-high) (sized .cards-size))) in
       record { refusal = _; next-cards = asked .0; next-rules = rules; taken = group-line sized first (record { asked = asked .1 }) }
 

@@ -98,8 +98,8 @@ pub record Joined (cards w : List ℕ) : Type 0 where
   pub numbers : Grouped w
   pub card-high : numberAt w 4 ≤ cardLimit
 
-pub joined : (cards w : List ℕ) → firstUnmet (groupQuestions (cardCount cards) w) ≡ 0 → Joined cards w
-joined cards w e =
+pub group-room : (cards w : List ℕ) → firstUnmet (groupQuestions (cardCount cards) w) ≡ 0 → Joined cards w
+group-room cards w e =
     let a = met 2 (isGroupLine w) _ (omega arith) e in
     let b = met 6 (leb 1 (numberAt w 4) && leb (numberAt w 4) (cardCount cards)) 0 (omega arith) (a .1) in
     let above = leb-true (numberAt w 4) (cardCount cards) (both-true (leb 1 (numberAt w 4)) _ (b .0) .1) in
@@ -134,7 +134,7 @@ group-line {w} {cards} {rules} sized first {r} {cards′} h = record {
   where
     new : r ≡ 0 → bookOf cards′ rules ≡ withLine (bookOf cards rules) (group (groupOf (getD w 2 0)) (numberAt w 4))
     new z =
-        let j = joined cards w (sym (h .asked .refusal-is) ∙ z) in
+        let j = group-room cards w (sym (h .asked .refusal-is) ∙ z) in
         member-grown (j .numbers .group-low) (j .numbers .group-high) (j .numbers .card-low) (j .card-high) (h .asked .added z) rules
 
 pub rule-line : {w cards rules : List ℕ} → Sized cards rules → getD w 0 0 ≡ code "R" → {r : ℕ} {rules′ : List ℕ}

@@ -1,5 +1,5 @@
-// Reads a text at every limit and with each kind of ill-formed line, and prints what each answers; the file stdout beside src/ is what it
-// must print.
+// Reads a text at every limit, with each kind of ill-formed line and with cards as they are printed, and prints what each answers; the file
+// stdout beside src/ is what it must print.
 mod texts;
 
 use answers::Answer;

@@ -207,7 +207,7 @@ fn hyphens_are_bytes_of_the_text() {
         assert_eq!(text.len(), bytes);
         assert_eq!(opening(text.as_bytes()), expected, "{card}");
     }
-    // One line of the most bytes, and with one of its digits in a group of its own.
+    // One line of the most bytes, and with one of its digits in a printed group of its own.
     let line = format!("C {}\n", "7".repeat(MAX_TEXT - 3));
     assert_eq!(opening(line.as_bytes()), (4, 1));
     let longer = line.replacen("C 7", "C 7-", 1);

@@ -10,7 +10,7 @@ use reference::search;
 /// Longest exchange and proof that a sweep goes to; both are over their limits.
 const EXCHANGE: usize = 99;
 const PROOF: usize = 3_072;
-/// How far the sweep of texts goes past their limit.
+/// How far the sweep of a text goes past its end.
 const PAST_TEXT: usize = 16;
 
 /// The four buffers of a call.

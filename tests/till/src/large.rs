@@ -35,7 +35,7 @@ pub fn unfilled(transfers: usize) -> Case {
     }
 }
 
-/// The same with a hyphen between any two digits of a card.
+/// The same with a hyphen between each two neighbouring digits of a card.
 pub fn hyphened(transfers: usize) -> Case {
     let text = needed();
     let lines = text.lines().map(|line| match line.strip_prefix("C ") {

@@ -335,7 +335,8 @@ fn damage(text: &mut Vec<u8>, random: &mut Random) {
     }
 }
 
-/// A place about the line's letter, at its end, or before the next hyphen.
+/// A place about the line's letter, at the line's end, or before the next hyphen; the text's end where
+/// there is none.
 fn beside_word(text: &[u8], line_start: usize, random: &mut Random) -> usize {
     let rest = &text[line_start..];
     let next = |byte| rest.iter().position(|&other| other == byte);

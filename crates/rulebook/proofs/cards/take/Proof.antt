@@ -10,7 +10,7 @@ use Rattle.model.specs.Limits.{cardLimit, mostDigits}
 use Rattle.model.specs.Reader.{isCardLine, cardRead}
 use Rattle.model.specs.Opening.{cardDigits, isCardNumber}
 use Rattle.forms.specs.Numbers.{inRow, digitsIn, isNumberIn}
-use Rattle.forms.proofs.Digits.{no-card-line, card-line, in-row, number-is}
+use Rattle.forms.proofs.Digits.{no-card-line, is-card-line, in-row, number-is}
 use Rattle.rulebook.specs.View.{cardCount}
 use Rattle.rulebook.proofs.Forms.{number-size, card-no-form, cards-full, card-wrong, card-repeated, card-taken}
 use borrow.Author.Needs.{needs}
@@ -33,7 +33,7 @@ card-of c = cardDigits (cardRead (line-of c))
 
 -- the line has the form
 formed : (c : tie.Else1) → isCardLine (line-of c) ≡ true
-formed c = card-line (line-of c) (λ z. c .if1 .left (ap (λ n. n .count) (c .before .before .card-number .ensures) ∙ z))
+formed c = is-card-line (line-of c) (λ z. c .if1 .left (ap (λ n. n .count) (c .before .before .card-number .ensures) ∙ z))
 
 -- there is room
 room : (c : tie.Else2) → cardCount (form-met c .before .before .before .before .args .cards .now) < cardLimit
