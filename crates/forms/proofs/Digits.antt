@@ -26,34 +26,36 @@ use Rattle.forms.specs.declared.cards.CardNumber.{CardNumber}
 
 -- ---- whether bytes are in printed groups: those before i are, and `before` tells how many digits the last of them is
 
--- what a turn asks, with d, h for a digit and a hyphen, and p where the byte before is no digit
-asked : (d p h : Bool) → (d || (not p && h)) ≡ not (eqb (oneIf d) 0 && (p || not h))
-asked true p h = refl
-asked false true h = refl
-asked false false true = refl
-asked false false false = refl
+-- a byte of n digits that has no place after one of m: it is no digit, and no hyphen after a digit
+abbrev pub stray : ℕ → ℕ → ℕ → Bool
+stray n m x = eqb n 0 && (eqb m 0 || not (isHyphen x))
+
+-- d, h for a digit and a hyphen, p where the byte before is no digit
+in-place : (d p h : Bool) → (d || (not p && h)) ≡ not (eqb (oneIf d) 0 && (p || not h))
+in-place true p h = refl
+in-place false true h = refl
+in-place false false true = refl
+in-place false false false = refl
 
 digit-before : (d : Bool) → not (eqb (oneIf d) 0) ≡ d
 digit-before true = refl
 digit-before false = refl
 
 module _ (s : List ℕ) (i before : ℕ) (h : inPrintedGroups (not (eqb before 0)) (drop i s) ≡ inPrintedGroups false s) where
-  module _ (l : i < length s) where
-    turn : inPrintedGroups (not (eqb before 0)) (drop i s)
-        ≡ ((isDigit (getD s i 0) || (not (eqb before 0) && isHyphen (getD s i 0))) && inPrintedGroups (isDigit (getD s i 0)) (drop (i + 1) s))
+  module _ {n : ℕ} (l : i < length s) (p : n ≡ oneIf (isDigit (getD s i 0))) where
+    turn : (not (stray n before (getD s i 0)) && inPrintedGroups (not (eqb n 0)) (drop (i + 1) s)) ≡ inPrintedGroups false s
     unfolding inPrintedGroups
-    turn = rw (add-one i, drop-cons s i 0 l)
+    turn =
+        let x = getD s i 0 in
+        let next : inPrintedGroups (not (eqb before 0)) (drop i s)
+        ≡ ((isDigit x || (not (eqb before 0) && isHyphen x)) && inPrintedGroups (isDigit x) (drop (i + 1) s)) = rw (add-one i, drop-cons s i 0 l) in
+        rw (p, ← in-place (isDigit x) (eqb before 0) (isHyphen x), digit-before (isDigit x)) (sym next ∙ h)
 
-    placed-if : {b : Bool} → (eqb (oneIf (isDigit (getD s i 0))) 0 && (eqb before 0 || not (isHyphen (getD s i 0)))) ≡ b
-        → (isDigit (getD s i 0) || (not (eqb before 0) && isHyphen (getD s i 0))) ≡ not b
-    placed-if e = asked (isDigit (getD s i 0)) (eqb before 0) (isHyphen (getD s i 0)) ∙ ap not e
+    pub misplaced : stray n before (getD s i 0) ≡ true → inPrintedGroups false s ≡ false
+    misplaced e = sym turn ∙ rw e
 
-    pub misplaced : (eqb (oneIf (isDigit (getD s i 0))) 0 && (eqb before 0 || not (isHyphen (getD s i 0)))) ≡ true → inPrintedGroups false s ≡ false
-    misplaced e = sym h ∙ turn ∙ rw (placed-if e)
-
-    pub placed : (eqb (oneIf (isDigit (getD s i 0))) 0 && (eqb before 0 || not (isHyphen (getD s i 0)))) ≡ false
-        → inPrintedGroups (not (eqb (oneIf (isDigit (getD s i 0))) 0)) (drop (i + 1) s) ≡ inPrintedGroups false s
-    placed e = rw (digit-before (isDigit (getD s i 0))) (sym (rw (placed-if e) at turn) ∙ h)
+    pub placed : stray n before (getD s i 0) ≡ false → inPrintedGroups (not (eqb n 0)) (drop (i + 1) s) ≡ inPrintedGroups false s
+    placed e = rw e at turn
 
   pub all-placed : i ≡ length s → not (eqb before 0) ≡ inPrintedGroups false s
   unfolding inPrintedGroups

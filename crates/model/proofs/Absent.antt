@@ -1,20 +1,16 @@
 -- A byte below the digits that is no star is in no word of a group or rule line: an LF, which ends lines, and a hyphen.
-use mathlib.Core.Bool.{Bool, true, false, not, cond}
+use mathlib.Core.Bool.{Bool, true, false, cond}
 use mathlib.Core.List.{List, [], _∷_, _++_, map}
 use mathlib.Core.Logic.{_≢_}
 use Prim.Native.Char.{code}
 use Prim.Native.Nat.{ℕ, zero, suc, _/_, _%_, _<_}
 use native.Mathlib.Omega.{arith}
-use lib.Dec.{T, eqb, leb}
-use Rattle.model.specs.Lists.{every, each}
+use lib.Dec.{T, leb}
+use Rattle.model.specs.Lists.{every, lacks, each}
 use Rattle.model.specs.Grammar.{Name, var, star, Price, Condition, inGroup, sameIssuer, Rule, group, rule}
 use Rattle.model.specs.Grammar.{digit, decimalIn, decimal, nameLetter, priceWords, conditionWords, joined, words}
 use Rattle.model.proofs.Tests.{both, every-append}
 use Rattle.model.proofs.Facts.{facts}
-
--- none of the bytes is x
-abbrev pub lacks : ℕ → List ℕ → Bool
-lacks x w = every (λ y. not (eqb y x)) w
 
 -- words and the mark between them
 module _ (x : ℕ) (mark : List ℕ) (m : T (lacks x mark)) where

@@ -10,7 +10,7 @@ use native.Mathlib.Omega.{arith}
 use lib.Dec.{T, eqb, leb}
 use lib.ListN.{length, length-append, length-map}
 use Rattle.model.specs.Limits.{textLimit}
-use Rattle.model.specs.Lists.{every, ascii}
+use Rattle.model.specs.Lists.{every, lacks, ascii}
 use Rattle.model.specs.Questions.{Answer, ok, refused, andThen}
 use Rattle.model.specs.Grammar.{Rule, Line, card, group, rule, digit, cardWord, words, printLine, printText, isPrintedGroup, wellFormed, InGrammar}
 use Rattle.model.specs.Book.{Book, noBook}
@@ -20,7 +20,7 @@ use Rattle.model.proofs.Tests.{and, both, every-append, ne-eqb}
 use Rattle.model.proofs.Facts.{facts}
 use Rattle.model.proofs.Words.{each-append, card-bytes}
 use Rattle.model.proofs.PrintedGroups.{tail}
-use Rattle.model.proofs.Absent.{lacks, joined-lack, digits-lack, group-lacks, rule-lacks}
+use Rattle.model.proofs.Absent.{joined-lack, digits-lack, group-lacks, rule-lacks}
 use Rattle.model.proofs.Cuts.{ended}
 use Rattle.model.proofs.Texts.{opened-by-lines, refused-by-line, opens-exactly, refused-at-first}
 
@@ -147,7 +147,7 @@ alike-refused {t} {n} no1 no2 (line {b = c} above rest l f p a (unmet k more w q
     let short : length (withoutHyphens t) ≤ textLimit = omega (arith, shorter t) in
     let refuses : addLine (1 + length (map inOne above)) c (inOne k) ≡ refused n (1 + length above) = rw (length-map above inOne) (line-taken (1 + length above) c k ∙ r) in
     ap opening left
-    ∙ refused-by-line (inOne k) (withoutHyphens more) (line-formed k w) (map inOne above) (text-formed above f) (lines-taken 1 noBook above ∙ a) refuses (rw left at short)
+    ∙ refused-by-line (map inOne above) (inOne k) (withoutHyphens more) (text-formed above f) (line-formed k w) (lines-taken 1 noBook above ∙ a) refuses (rw left at short)
 
 -- ---- the statement
 

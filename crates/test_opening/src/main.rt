@@ -198,11 +198,9 @@ fn long_lines() {
 
 // The text of so many cards, a line so many times, and what is last.
 fn show_limit(label: &[u8], cards: u8, line: &[u8], times: usize, last: &[u8]) {
-    let mut buffer = [0u8; 20_000];
-    let declared = texts::cards(&mut buffer, cards);
-    let repeated = texts::repeat(&mut buffer, declared, line, times);
-    let end = texts::put(&mut buffer, repeated, last);
-    show(label, &buffer[..end]);
+    let mut first = [0u8; 480];
+    let declared = texts::cards(&mut first, cards);
+    show_repeated(label, &first[..declared], line, times, last);
 }
 
 fn limits() {

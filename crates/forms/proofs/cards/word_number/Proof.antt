@@ -1,13 +1,12 @@
 -- The bytes before i are digits and hyphens in their places, and the row has the digits among them, as far as it goes.
 use mathlib.Core.Path.{_≡_, sym, _∙_, ap}
-use mathlib.Core.Bool.{Bool, false, not, _&&_, _||_}
+use mathlib.Core.Bool.{false, not}
 use mathlib.Core.List.{List}
 use Prim.Native.Nat.{ℕ, _+_, _-_, _≤_}
 use lib.Dec.{eqb}
-use lib.ListN.{length, getD, drop}
+use lib.ListN.{length, drop}
 use borrow.Author.Tests.{eq-eqb, ne-eqb}
-use Rattle.model.specs.Lists.{oneIf}
-use Rattle.model.specs.Reader.{isDigit, isHyphen, inPrintedGroups}
+use Rattle.model.specs.Reader.{inPrintedGroups}
 use Rattle.forms.proofs.Digits.{misplaced, placed, all-placed, Taken, taken-none, taken-more, taken-size, taken-all}
 use borrow.Author.Needs.{needs}
 use Rattle.forms.proofs.cards.word_number.Statement.{statement}
@@ -20,25 +19,16 @@ Inv-loop s digits₀ count₀ before₀ i₀ i-end digits count before i =
 abbrev μ-loop : tie.MeasureT-loop
 μ-loop s digits₀ count₀ before₀ i₀ i-end digits count before i = length s - i
 
--- the loop's head in a turn, the bytes, and the one of the turn
+-- the loop's head in a turn, and the bytes
 abbrev head : tie.After-put-digit Inv-loop μ-loop → tie.At-loop Inv-loop μ-loop
 head c = c .before .before .before .before
 
 abbrev bytes : tie.After-put-digit Inv-loop μ-loop → List ℕ
 bytes c = head c .before .before .args .s .now
 
-abbrev byte : tie.After-put-digit Inv-loop μ-loop → ℕ
-byte c = getD (bytes c) (head c .loop .i) 0
-
 -- what a turn leaves
 turn : (c : tie.After-put-digit Inv-loop μ-loop) → Taken (bytes c) (head c .loop .i + 1) (head c .loop .count + c .put-digit .result) (c .put-digit .last .0)
 turn c = taken-more (head c .loop .inv .1) (c .put-digit .result) (c .put-digit .last .0) (search needs) (c .put-digit .ensures .0) (c .put-digit .ensures .1)
-
--- what a turn asks
-asked : (c : tie.After-put-digit Inv-loop μ-loop) {b : Bool}
-    → (eqb (c .put-digit .result) 0 && (eqb (head c .loop .before) 0 || not (isHyphen (byte c)))) ≡ b
-    → (eqb (oneIf (isDigit (byte c))) 0 && (eqb (head c .loop .before) 0 || not (isHyphen (byte c)))) ≡ b
-asked c e = ap (λ (n : ℕ). eqb n 0 && (eqb (head c .loop .before) 0 || not (isHyphen (byte c)))) (sym (c .put-digit .ensures .0)) ∙ e
 
 -- ---- the needs
 
@@ -52,7 +42,7 @@ returns : tie.Need-returns Inv-loop μ-loop
 returns c =
     let d = c .before .before in
     let h = head d .loop in
-    rw (misplaced (bytes d) (h .i) (h .before) (h .inv .2) (search needs) (asked d (c .before .if1 .taken))) (c .no-digits .ensures)
+    rw (misplaced (bytes d) (h .i) (h .before) (h .inv .2) (search needs) (d .put-digit .ensures .0) (c .before .if1 .taken)) (c .no-digits .ensures)
 
 add-count : tie.Need-add-count Inv-loop μ-loop
 add-count c = let few = turn (c .before) .few in search needs
@@ -61,8 +51,7 @@ loop-again : tie.Need-loop-again Inv-loop μ-loop
 loop-again c =
     let d = c .before in
     let h = head d .loop in
-    let next = placed (bytes d) (h .i) (h .before) (h .inv .2) (search needs) (asked d (c .if1 .left)) in
-    (search needs, turn d, rw (d .put-digit .ensures .0) next, search needs)
+    (search needs, turn d, placed (bytes d) (h .i) (h .before) (h .inv .2) (search needs) (d .put-digit .ensures .0) (c .if1 .left), search needs)
 
 returns-2 : tie.Need-returns-2 Inv-loop μ-loop
 returns-2 c =
