@@ -32,9 +32,10 @@ extern "C" {
 
 /*
  * Raised when an answer's meaning changes, or when a text that was refused is taken. 2: card lines may have hyphens; a call whose text has
- * none is answered as in 1. The archive does not tell its version: build it from the commit that the header is of.
+ * none is answered as in 1. 3: a card may give what it receives in the same exchange, so some calls that 2 answers with 22 settle; all
+ * others are answered as in 2. The archive does not tell its version: build it from the commit that the header is of.
  */
-#define THAWCROFT_VERSION 2
+#define THAWCROFT_VERSION 3
 
 /* 32 cards by 16 kinds. Card m's holding of kind k (A is 1, P is 16) is at (m - 1) * 16 + k - 1. */
 #define THAWCROFT_HOLDING_COUNT 512
@@ -67,7 +68,7 @@ enum thawcroft_answer {
     THAWCROFT_CONDITION_UNMET = 19, /* a condition does not hold */
     THAWCROFT_BAD_LINK = 20,        /* next does not end the chain with the last claim, or is no record */
     THAWCROFT_PRICE_UNPAID = 21,    /* a transfer is asked as a price more often than it occurs */
-    THAWCROFT_NOT_COVERED = 22,     /* a giver does not hold all that it gives */
+    THAWCROFT_NOT_COVERED = 22,     /* a card's holding of a kind plus what it receives of it in the exchange is less than what it gives */
     THAWCROFT_HOLDING_EXCEEDED = 23 /* a card would end with over 1,000,000,000; never the answer, since 24 rules it out */
 };
 

@@ -98,16 +98,15 @@ static void refused(const char *name, uint32_t number) {
     check(name, number, before);
 }
 
-/* The ring moves one token of each of the three. */
+/* Each transfer of the exchange moves one token. */
 static void settled(const char *name) {
     uint32_t after[sizeof call.room / sizeof call.room[0]];
     memcpy(after, call.room, sizeof after);
-    after[1 + place(1, 1)] -= 1;
-    after[1 + place(2, 1)] += 1;
-    after[1 + place(2, 2)] -= 1;
-    after[1 + place(3, 2)] += 1;
-    after[1 + place(3, 3)] -= 1;
-    after[1 + place(1, 3)] += 1;
+    for (size_t i = 0; i < call.exchange_length; i += 3) {
+        const uint8_t *transfer = call.exchange + i;
+        after[1 + place(transfer[0], transfer[1])] -= 1;
+        after[1 + place(transfer[2], transfer[1])] += 1;
+    }
     check(name, THAWCROFT_DONE, after);
 }
 
@@ -286,14 +285,19 @@ static void records(void) {
     in_proof("a price that nobody pays", 5, 2, THAWCROFT_PRICE_UNPAID);
 }
 
+/* So many transfers in the ring's place, with a record for each. */
+static void propose(const uint8_t *exchange, const uint8_t *proof, size_t transfers) {
+    call.exchange_length = transfers * 3;
+    memcpy(call.exchange, exchange, call.exchange_length);
+    call.proof_length = transfers * 12;
+    memcpy(call.proof, proof, call.proof_length);
+}
+
 static void condition(void) {
     static const uint8_t gift[3] = {2, 2, 1};
     static const uint8_t record[12] = {0, 1, 4, 0, 1};
     ring();
-    memcpy(call.exchange, gift, sizeof gift);
-    call.exchange_length = sizeof gift;
-    memcpy(call.proof, record, sizeof record);
-    call.proof_length = sizeof record;
+    propose(gift, record, 1);
     refused("2 B 1 by rule 4: another issuer", THAWCROFT_CONDITION_UNMET);
 }
 
@@ -305,6 +309,22 @@ static void uncovered(void) {
     hold(3, 3, 0);
     hold(1, 3, 1);
     refused("card 1 holds the C that card 3 gives", THAWCROFT_NOT_COVERED);
+}
+
+/* 1 A 2, 2 D 1, 2 B 3, 3 D 2, by the rules 7, 8, 4, 5: card 2 gives the D that it receives. */
+static void passed_on(void) {
+    static const uint8_t exchange[12] = {1, 1, 2, 2, 4, 1, 2, 2, 3, 3, 4, 2};
+    static const uint8_t proof[48] = {
+        2, 1, 7, 0, 2, 2, 0, 0, 0, 0, 0, 0,
+        3, 2, 8, 0, 1, 0, 0, 0, 0, 0, 0, 0,
+        4, 3, 4, 0, 3, 0, 0, 0, 0, 0, 0, 0,
+        0, 4, 5, 0, 2, 2, 0, 0, 0, 0, 0, 0,
+    };
+    ring();
+    propose(exchange, proof, 4);
+    refused("card 2 passes on a D that nobody holds", THAWCROFT_NOT_COVERED);
+    hold(3, 4, 1);
+    settled("card 2 passes on card 3's D");
 }
 
 /* An empty slice's pointer is not read. */
@@ -326,6 +346,7 @@ int main(void) {
     records();
     condition();
     uncovered();
+    passed_on();
     empty_slices();
     printf("%s\n", failures == 0 ? "host: ok" : "host: FAILED");
     return failures != 0;

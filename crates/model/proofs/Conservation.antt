@@ -18,10 +18,13 @@ use Rattle.model.specs.Holdings.{State, receives, sumTo, total}
 use Rattle.model.specs.Calls.{Call, issue, redeem, query, settle, accountQuestions, replyTo, amount, issues, redeems, receivedIn, givenIn, changed, after}
 use Rattle.model.proofs.Tests.{eq-T, eqb-same, within→, zero-or-more}
 use Rattle.model.proofs.Questions.{inOrder-ok}
-use Rattle.model.proofs.Sums.{sum-add, sum-same, sum-zero, sum-point, and-scale, proper-receiver, proper-kind, given-is-received, with-side, covered→}
+use Rattle.model.proofs.Sums.{sum-add, sum-same, sum-zero, sum-point, and-scale, proper-receiver, proper-kind, given-is-received, with-side}
 use Rattle.model.proofs.Settling.{settled-ok}
 
--- ---- a call that is not refused takes no more than there is
+-- ---- a call that is not refused takes no more than there is and it brings
+
+abbrev pub Suffices : State → Call → Type 0
+Suffices s call = (d j : ℕ) → redeems call d j + givenIn call d j ≤ s .held d j + (issues call d j + receivedIn call d j)
 
 amount-le : (s : State) (c k n d j : ℕ) → n ≤ s .held c k → amount c k n d j ≤ s .held d j
 amount-le s c k n d j h = go (eqb c d) (eqb k j) refl refl
@@ -31,14 +34,14 @@ amount-le s c k n d j h = go (eqb c d) (eqb k j) refl refl
     go true false e f = omega arith
     go false y e f = omega arith
 
-pub takes-le : (b : Book) (s : State) (call : Call) (t : Told) → replyTo b s call ≡ ok t → (d j : ℕ) → redeems call d j + givenIn call d j ≤ s .held d j
+pub suffices : (b : Book) (s : State) (call : Call) (t : Told) → replyTo b s call ≡ ok t → Suffices s call
 unfolding replyTo
-takes-le b s (issue c k n) t h d j = omega arith
-takes-le b s (redeem c k n) t h d j =
+suffices b s (issue c k n) t h d j = omega arith
+suffices b s (redeem c k n) t h d j =
     let q = inOrder-ok (accountQuestions b c k ++ ((11 unless leb n (s .held c k)) ∷ [])) 0 (ok done) t h in
     omega (arith, amount-le s c k n d j (leb→le n (s .held c k) (q .0 .1 .1 .0)))
-takes-le b s (query c k) t h d j = omega arith
-takes-le b s (settle e p) t h d j = omega (arith, covered→ s (exchangeOf e) (settled-ok b s e p t h .covered) d j)
+suffices b s (query c k) t h d j = omega arith
+suffices b s (settle e p) t h d j = omega (arith, settled-ok b s e p t h .covered d j)
 
 -- ---- and brings to declared cards and kinds alone
 
@@ -51,7 +54,7 @@ module _ (b : Book) (d j : ℕ) (unknown : T (declared b d) → T (isKind j) →
       go true false e f = omega arith
       go false y e f = omega arith
 
-  received-none : (X : Exchange) → Among b X → receives d j X ≡ 0
+  pub received-none : (X : Exchange) → Among b X → receives d j X ≡ 0
   received-none X h = go (zero-or-more (receives d j X))
     where
       go : (receives d j X ≡ 0) ⊎ (1 ≤ receives d j X) → receives d j X ≡ 0
@@ -80,7 +83,7 @@ changed-is s (settle e p) d j = omega arith
 -- ---- the sums
 
 -- what is taken and what is left are what was there and what came
-balance : (s : State) (call : Call) → ((d j : ℕ) → redeems call d j + givenIn call d j ≤ s .held d j) → (k : ℕ)
+balance : (s : State) (call : Call) → Suffices s call → (k : ℕ)
     → total (changed s call) k + (sumTo (λ c. redeems call c k) cardLimit + sumTo (λ c. givenIn call c k) cardLimit)
     ≡ total s k + (sumTo (λ c. issues call c k) cardLimit + sumTo (λ c. receivedIn call c k) cardLimit)
 balance s call h k = go cardLimit
@@ -111,7 +114,7 @@ module _ (b : Book) (few : length (b .cards) ≤ cardLimit) where
   pub settling-keeps : (s : State) (e p : List ℕ) (k : ℕ) (t : Told) → replyTo b s (settle e p) ≡ ok t → total (changed s (settle e p)) k ≡ total s k
   settling-keeps s e p k t h = omega (
     arith,
-    balance s (settle e p) (takes-le b s (settle e p) t h) k,
+    balance s (settle e p) (suffices b s (settle e p) t h) k,
     sum-zero cardLimit,
     given-is-received b cardLimit k (exchangeOf e) few (settled-ok b s e p t h .among),
   )
@@ -120,13 +123,13 @@ module _ (b : Book) (few : length (b .cards) ≤ cardLimit) where
   unfolding replyTo
   issuing-adds s c j n k t h =
       let q = inOrder-ok (accountQuestions b c j ++ ((10 unless leb (total s j + n) sumLimit) ∷ [])) 0 (ok done) t h in
-      omega (arith, balance s (issue c j n) (takes-le b s (issue c j n) t h) k, sum-zero cardLimit, amount-sum c j n k (q .0 .0))
+      omega (arith, balance s (issue c j n) (suffices b s (issue c j n) t h) k, sum-zero cardLimit, amount-sum c j n k (q .0 .0))
 
   pub redeeming-takes : (s : State) (c j n k : ℕ) (t : Told) → replyTo b s (redeem c j n) ≡ ok t → total (changed s (redeem c j n)) k + amount c j n c k ≡ total s k
   unfolding replyTo
   redeeming-takes s c j n k t h =
       let q = inOrder-ok (accountQuestions b c j ++ ((11 unless leb n (s .held c j)) ∷ [])) 0 (ok done) t h in
-      omega (arith, balance s (redeem c j n) (takes-le b s (redeem c j n) t h) k, sum-zero cardLimit, amount-sum c j n k (q .0 .0))
+      omega (arith, balance s (redeem c j n) (suffices b s (redeem c j n) t h) k, sum-zero cardLimit, amount-sum c j n k (q .0 .0))
 
   -- ---- no kind's sum ever passes the limit
 
@@ -144,5 +147,5 @@ module _ (b : Book) (few : length (b .cards) ≤ cardLimit) where
   pub limit-kept : (s : State) → ((k : ℕ) → total s k ≤ sumLimit) → (call : Call) (t : Told) → replyTo b s call ≡ ok t → (k : ℕ) → total (changed s call) k ≤ sumLimit
   limit-kept s l (issue c j n) t h k = omega (arith, issuing-adds s c j n k t h, issue-limit s c j n k t h (l k))
   limit-kept s l (redeem c j n) t h k = omega (arith, redeeming-takes s c j n k t h, l k)
-  limit-kept s l (query c j) t h k = omega (arith, balance s (query c j) (takes-le b s (query c j) t h) k, sum-zero cardLimit, l k)
+  limit-kept s l (query c j) t h k = omega (arith, balance s (query c j) (suffices b s (query c j) t h) k, sum-zero cardLimit, l k)
   limit-kept s l (settle e p) t h k = omega (arith, settling-keeps s e p k t h, l k)

@@ -1,5 +1,5 @@
--- Over every list of calls: by induction on the list, nothing is taken that is not there, so the state that the history gives moves
--- call by call as each call says, and no kind's sum passes the limit.
+-- Over every list of calls: by induction on the list, nothing is taken that is not there or comes with the same call, so the state that
+-- the history gives moves call by call as each call says, and no kind's sum passes the limit.
 use mathlib.Core.Path.{_≡_, refl, sym, ap, _∙_, subst}
 use mathlib.Core.Bool.{cond}
 use mathlib.Core.List.{List, _∷_}
@@ -10,20 +10,20 @@ use Rattle.model.specs.Questions.{ok, refused, Told, done, Reply}
 use Rattle.model.specs.Book.{Book}
 use Rattle.model.specs.Transfers.{exchangeOf}
 use Rattle.model.specs.Holdings.{State, MovedExactly, sumTo, total}
-use Rattle.model.specs.Calls.{Call, issue, redeem, query, settle, replyTo, redeems, receivedIn, givenIn, isRefused, changed, after}
+use Rattle.model.specs.Calls.{Call, issue, redeem, query, settle, replyTo, receivedIn, givenIn, isRefused, changed, after}
 use Rattle.model.specs.History.{History, start, _▸_, issued, redeemed, received, given, stateBy, notRefused, stateAfter, replyAfter}
 use Rattle.model.specs.Theorems.{Histories}
-use Rattle.model.proofs.Sums.{sum-add, sum-zero, given-is-received, covered→}
+use Rattle.model.proofs.Sums.{sum-add, sum-zero, given-is-received}
 use Rattle.model.proofs.Settling.{settled-ok, settles}
 use Rattle.model.proofs.Completeness.{Shaped}
-use Rattle.model.proofs.Conservation.{takes-le, changed-is, limit-kept}
+use Rattle.model.proofs.Conservation.{Suffices, suffices, changed-is, limit-kept}
 
 -- no more was taken than had come
 abbrev pub Natural : List Call → Type 0
 Natural calls = (c k : ℕ) → redeemed calls c k + given calls c k ≤ issued calls c k + received calls c k
 
--- a call more, in a state that it takes no more from than is there
-state-more : (calls : List Call) (call : Call) → Natural calls → ((d j : ℕ) → redeems call d j + givenIn call d j ≤ stateBy calls .held d j)
+-- a call more, for which the state suffices
+state-more : (calls : List Call) (call : Call) → Natural calls → Suffices (stateBy calls) call
     → Natural (call ∷ calls) × (stateBy (call ∷ calls) ≡ changed (stateBy calls) call)
 unfolding stateBy
 state-more calls call n h = (
@@ -70,7 +70,7 @@ module _ (b : Book) where
 
         more : Natural (call ∷ notRefused b h) × (stateBy (call ∷ notRefused b h) ≡ changed (stateAfter b h) call)
         unfolding stateAfter
-        more = state-more (notRefused b h) call (kept .natural) (takes-le b (stateAfter b h) call t now)
+        more = state-more (notRefused b h) call (kept .natural) (suffices b (stateAfter b h) call t now)
 
         state-ok : stateAfter b (h ▸ call) ≡ changed (stateAfter b h) call
         unfolding stateAfter
@@ -137,7 +137,7 @@ module _ (b : Book) where
     moved : (h : History) (e p : List ℕ) → replyAfter b h (settle e p) ≡ ok done → MovedExactly (stateAfter b h) (exchangeOf e) (stateAfter b (h ▸ settle e p))
     moved h e p r c k =
         let s = state-ok h (kept h) (settle e p) done r in
-        let q = covered→ (stateAfter b h) (exchangeOf e) (settled-ok b (stateAfter b h) e p done (reply-now h (settle e p) ∙ r) .covered) c k in
+        let q = settled-ok b (stateAfter b h) e p done (reply-now h (settle e p) ∙ r) .covered c k in
         rw s (omega arith)
 
     sums : (h : History) (k : ℕ) → total (stateAfter b h) k + sumTo (λ c. redeemed (notRefused b h) c k) cardLimit ≡ sumTo (λ c. issued (notRefused b h) c k) cardLimit

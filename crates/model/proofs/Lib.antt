@@ -17,6 +17,7 @@ pub mod RuleVariables
 pub mod Counting
 pub mod Loops
 pub mod Permutations
+pub mod Orders
 pub mod Backing
 pub mod Soundness
 pub mod Reordering

@@ -13,7 +13,7 @@ use Rattle.model.specs.Questions.{Answer, ok, refused, Told, done, holdi
 use Rattle.model.specs.Book.{Book}
 use Rattle.model.specs.Transfers.{Exchange, contained, transferAt, exchangeOf}
 use Rattle.model.specs.Fairness.{Fair, isProper, Among}
-use Rattle.model.specs.Holdings.{State, gives, receives, isCovered, Covered, settled, sumTo, total}
+use Rattle.model.specs.Holdings.{State, gives, receives, Covered, isCovered, settled, sumTo, total}
 use Rattle.model.specs.Proof.{recordAt, next, asked, marked, recordQuestions, chain, judgeChain}
 use Rattle.model.specs.Calls.{query, settle, accountQuestions, isSized, endsLimited, judging, replyTo}
 use Rattle.model.proofs.Tests.{T-eq, both}
@@ -21,7 +21,7 @@ use Rattle.model.proofs.Places.{upTo-length, every-oneTo}
 use Rattle.model.proofs.Questions.{inOrder-ok, inOrder-met, andThen-ok}
 use Rattle.model.proofs.Soundness.{passed-fair}
 use Rattle.model.proofs.Completeness.{Shaped, complete}
-use Rattle.model.proofs.Sums.{sum-add, sum-part, given-is-received, covered→}
+use Rattle.model.proofs.Sums.{sum-add, sum-part, given-is-received, covered→, →covered}
 
 -- ---- a settlement that is not refused
 
@@ -51,7 +51,12 @@ settled-ok b s e p t h =
     let j = andThen-ok (judging b e p) _ t h in
     let k = judged-ok b e p (j .0) (j .1) in
     let q = inOrder-ok ((22 unless isCovered s (exchangeOf e)) ∷ (23 unless endsLimited b s (exchangeOf e)) ∷ []) 0 (ok done) t (j .2) in
-    record { sized = k .sized; among = k .among; isFair = passed-fair b (exchangeOf e) p (j .0) (k .among) (k .judged); covered = q .0 .0 }
+    record {
+      sized = k .sized;
+      among = k .among;
+      isFair = passed-fair b (exchangeOf e) p (j .0) (k .among) (k .judged);
+      covered = covered→ s (exchangeOf e) (q .0 .0);
+    }
 
 -- judging and settling tell no more than that they are done
 pub judging-done : (b : Book) (e p : List ℕ) (t : Told) → judging b e p ≡ ok t → t ≡ done
@@ -79,7 +84,7 @@ query-tells b s c k t h = let r = inOrder-ok (accountQuestions b c k) 0 (ok (hol
 module _ (b : Book) (few : length (b .cards) ≤ cardLimit) (s : State) (X : Exchange) (among : Among b X) (covered : Covered s X) where
   pub conserved : (k : ℕ) → sumTo (λ c. settled s X c k) cardLimit ≡ total s k
   conserved k =
-      let both-sides : (c : ℕ) → settled s X c k + gives c k X ≡ s .held c k + receives c k X = λ c. omega (arith, covered→ s X covered c k) in
+      let both-sides : (c : ℕ) → settled s X c k + gives c k X ≡ s .held c k + receives c k X = λ c. omega (arith, covered c k) in
       let p = sum-add (λ c. s .held c k + receives c k X) (λ c. s .held c k) (λ c. receives c k X) cardLimit (λ c. refl) in
       let q = sum-add (λ c. s .held c k + receives c k X) (λ c. settled s X c k) (λ c. gives c k X) cardLimit (λ c. sym (both-sides c)) in
       omega (arith, p, q, given-is-received b cardLimit k X few among)
@@ -115,7 +120,7 @@ settle-met : (b : Book) (s : State) (e p : List ℕ) → judging b e p ≡ ok do
     → replyTo b s (settle e p) ≡ ok done
 unfolding replyTo
 settle-met b s e p j c l =
-    rw j (inOrder-met ((22 unless isCovered s (exchangeOf e)) ∷ (23 unless endsLimited b s (exchangeOf e)) ∷ []) 0 (ok done) (c, (l, tt)))
+    rw j (inOrder-met ((22 unless isCovered s (exchangeOf e)) ∷ (23 unless endsLimited b s (exchangeOf e)) ∷ []) 0 (ok done) (→covered s (exchangeOf e) c, (l, tt)))
 
 pub settles : (b : Book) → Shaped b → (s : State) → ((k : ℕ) → total s k ≤ sumLimit) → (e : List ℕ) → T (isSized transferSize exchangeLimit e)
     → Among b (exchangeOf e) → Fair b (exchangeOf e) → Covered s (exchangeOf e) → (p : List ℕ) × T (every isByte p) × (replyTo b s (settle e p) ≡ ok done)
@@ -173,5 +178,5 @@ never-23 b few s limit e p i h = go (judging b e p) refl (early-judging b e p) h
         → andThen x (λ t. inOrder ((22 unless isCovered s (exchangeOf e)) ∷ (23 unless endsLimited b s (exchangeOf e)) ∷ []) 0 (ok done)) ≢ refused 23 i
     go (ok t) j k q =
         last (isCovered s (exchangeOf e)) (endsLimited b s (exchangeOf e))
-        (λ c. T-eq (endsLimited b s (exchangeOf e)) (ends-limited b few s (exchangeOf e) (judged-ok b e p t j .among) c limit)) q
+        (λ c. T-eq (endsLimited b s (exchangeOf e)) (ends-limited b few s (exchangeOf e) (judged-ok b e p t j .among) (covered→ s (exchangeOf e) c) limit)) q
     go (refused n m) j k q = let z : n ≡ 23 = cc in omega arith

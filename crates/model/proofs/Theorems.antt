@@ -8,7 +8,7 @@ use Rattle.model.specs.Opening.{openedBook}
 use Rattle.model.specs.Fairness.{variables}
 use Rattle.model.specs.Calls.{issue, redeem, settle}
 use Rattle.model.specs.History.{stateAfter, replyAfter}
-use Rattle.model.specs.Theorems.{LinesRead, TextsCut, OpensExactly, RefusedAtFirst, GroupsRepeat, HyphensAside, Soundness, Completeness, FairnessDecided, Conservation, EveryHistory, CountingIsPermutation}
+use Rattle.model.specs.Theorems.{LinesRead, TextsCut, OpensExactly, RefusedAtFirst, GroupsRepeat, HyphensAside, Soundness, Completeness, FairnessDecided, CoveredTested, OrderAside, Conservation, EveryHistory, CountingIsPermutation}
 use Rattle.model.specs.Swaps.{EverySwap}
 use Rattle.model.proofs.Tests.{every-map}
 use Rattle.model.proofs.Lines as Lines
@@ -17,9 +17,11 @@ use Rattle.model.proofs.Texts as Texts
 use Rattle.model.proofs.Hyphens as Hyphens
 use Rattle.model.proofs.RuleVariables.{rule-letters}
 use Rattle.model.proofs.Permutations as Permutations
+use Rattle.model.proofs.Orders as Orders
 use Rattle.model.proofs.Soundness as Sound
 use Rattle.model.proofs.Completeness as Complete
 use Rattle.model.proofs.Deciding as Deciding
+use Rattle.model.proofs.Sums as Sums
 use Rattle.model.proofs.Settling as Settling
 use Rattle.model.proofs.Conservation as Conserved
 use Rattle.model.proofs.Histories as History
@@ -65,6 +67,14 @@ completeness text = Complete.complete (openedBook text) (shaped text)
 
 pub fairness-decided : FairnessDecided
 fairness-decided text = Deciding.decides (openedBook text) (shaped text .lettered)
+
+-- ---- covered
+
+pub covered-tested : CoveredTested
+covered-tested s X = (Sums.covered→ s X, Sums.→covered s X)
+
+pub order-aside : OrderAside
+order-aside = Orders.order-aside
 
 -- ---- sums of a kind
 

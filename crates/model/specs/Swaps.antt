@@ -90,7 +90,7 @@ Says b (opensNot t n i) = opening t ≡ refused n i
 
 -- ---- the table
 
--- P8's exchange, its proof by the rules 7, 8, 4, 5, and issues to its givers
+-- P8's exchange, its proof by the rules 7, 8, 4, 5, and the issues of an A to card 1 and a B to card 2
 abbrev pub swap8 : Exchange
 swap8 = giving 1 A 2 ∷ giving 2 D 1 ∷ giving 2 B 3 ∷ giving 3 D 2 ∷ []
 
@@ -98,7 +98,7 @@ abbrev pub settle8 : Call
 settle8 = settle (bytesOf swap8) (proofRecord 2 1 7 2 2 ++ proofRecord 3 2 8 1 0 ++ proofRecord 4 3 4 3 0 ++ proofRecord 0 4 5 2 2)
 
 abbrev pub issues8 : History
-issues8 = start ▸ issue 1 A 1 ▸ issue 2 B 1 ▸ issue 3 D 1
+issues8 = start ▸ issue 1 A 1 ▸ issue 2 B 1
 
 abbrev pub swap6 : Exchange
 swap6 = giving 3 D 2 ∷ giving 1 B 3 ∷ giving 2 B 3 ∷ []
@@ -118,10 +118,10 @@ table =
     judged swap6 (proofRecord 2 1 5 2 1 ++ proofRecord 3 2 6 3 2 ++ proofRecord 0 3 4 3 0) 21 0 ∷
     -- P7: with a second 3 D 2
     fair (swap6 ++ (giving 3 D 2 ∷ [])) ∷
-    -- P8: fair, yet 22 while card 2 holds no D, though it holds B; settled once it holds one
+    -- P8, as document 02 has it: fair, and settled although card 2 holds no D; yet 22 while card 3 holds no D either
     fair swap8 ∷
+    replied (issues8 ▸ issue 3 D 1) settle8 (ok done) ∷
     replied issues8 settle8 (refused 22 0) ∷
-    replied (issues8 ▸ issue 2 D 1) settle8 (ok done) ∷
     -- P9: 2 B 1 by rule 4 with a = 1
     judged (giving 2 B 1 ∷ []) (proofRecord 0 1 4 1 0) 19 1 ∷
     -- P10: 1 A 2 by rule 1 with a = 2, b = 1

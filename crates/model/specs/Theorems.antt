@@ -17,7 +17,7 @@ use Rattle.model.specs.Book.{Book, noBook}
 use Rattle.model.specs.Opening.{cardDigits, withLine, addLine, addLines, opening, openedBook}
 use Rattle.model.specs.Transfers.{Exchange, _~_, exchangeOf}
 use Rattle.model.specs.Fairness.{Fair, Among}
-use Rattle.model.specs.Holdings.{State, Covered, MovedExactly, sumTo, total}
+use Rattle.model.specs.Holdings.{State, Covered, isCovered, settled, MovedExactly, sumTo, total}
 use Rattle.model.specs.Proof.{judgeChain}
 use Rattle.model.specs.Calls.{issue, redeem, settle, isSized, amount, replyTo, after}
 use Rattle.model.specs.History.{History, _▸_, issued, redeemed, received, given, notRefused, stateAfter, replyAfter}
@@ -115,6 +115,19 @@ Completeness =
 
 abbrev pub FairnessDecided : Type 0
 FairnessDecided = (text : List ℕ) (X : Exchange) → Among (openedBook text) X → T (isFair (openedBook text) X) ↔ Fair (openedBook text) X
+
+-- ---- Covered
+
+-- question 22's test of an exchange's transfers tells whether it is covered at every card and kind
+abbrev pub CoveredTested : Type 0
+CoveredTested = (s : State) (X : Exchange) → T (isCovered s X) ↔ Covered s X
+
+-- the order of the transfers plays no part: of two exchanges of the same transfers, one is fair or covered if the other is, and both
+-- leave the same holdings
+pub record OrderAside : Type 0 where
+  pub fair : (b : Book) (X Y : Exchange) → X ~ Y → Fair b X → Fair b Y
+  pub covered : (s : State) (X Y : Exchange) → X ~ Y → Covered s X → Covered s Y
+  pub moved : (s : State) (X Y : Exchange) → X ~ Y → (c k : ℕ) → settled s X c k ≡ settled s Y c k
 
 -- ---- Sums of a kind
 

@@ -24,11 +24,9 @@ fn finish(declared: u8, holdings: &mut [u32; 512], exchange: &[u8], n: usize) ->
     ensures { λ r. ⌜ Finished declared (now (holdings .entry)) (now (exchange .entry)) r (now (holdings .exit)) ⌝ }
 {
     let mut next = copied(holdings);
-    if !moves::take(&mut next, exchange, n) {
+    moves::add_receipts(&mut next, exchange, n);
+    if !moves::take_gifts(&mut next, exchange, n) {
         return answers::NOT_COVERED;
-    }
-    if !moves::give(&mut next, exchange, n) {
-        return answers::HOLDING_EXCEEDED;
     }
     let count = limits::at_most(declared, limits::CARD_LIMIT) as usize;
     if !moves::limited(&next, count) {

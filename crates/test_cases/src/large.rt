@@ -1,4 +1,5 @@
 // 32 transfers with 32 records, and one transfer or record more or less.
+use crate::free;
 use crate::tell;
 use engine::Engine;
 ghost use Prim.Native.Nat.{_≤_};
@@ -21,24 +22,12 @@ fn exchange() -> [u8; 99] {
     x
 }
 
-// Record i claims transfer i by rule 1 with a = 2; the last of 32 ends the chain.
-fn proof() -> [u8; 384] {
-    let mut p = [0; 384];
-    for i in 0..32 {
-        p[i * 12] = ((i + 2) % 33) as u8;
-        p[i * 12 + 1] = (i + 1) as u8;
-        p[i * 12 + 2] = 1;
-        p[i * 12 + 4] = 2;
-    }
-    p
-}
-
 // The first transfers with the first records, while card 1 holds so many tokens.
 fn settle(label: &[u8], held: u32, transfers: usize, records: usize) -> Engine
     requires { ⌜ (transfers ≤ 33) × (records ≤ 32) ⌝ }
 {
     let x = exchange();
-    let p = proof();
+    let p = free::proof(&x);
     let bytes = transfers * 3;
     let size = records * 12;
     tell::settle(label, open(held), &x[..bytes], &p[..size])

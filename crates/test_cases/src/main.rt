@@ -1,7 +1,9 @@
 // Runs the calls of document 01's cases that are not marked P, and of some that are, and prints what each answers; the file stdout beside
 // src/ is what it must print.
+mod free;
 mod issuing;
 mod large;
+mod passing;
 mod ring;
 mod tell;
 
@@ -16,6 +18,10 @@ fn main() {
     ring::links();
     ring::swaps();
     ring::asked_twice();
+    ring::supplied();
     ring::other_order();
+    passing::orders();
+    passing::amounts();
+    passing::rings();
     large::settlements();
 }

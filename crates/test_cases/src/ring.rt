@@ -155,6 +155,36 @@ pub(crate) fn asked_twice() {
     tell::calls(e, b"card 2's kind D:H 2 4;");
 }
 
+// P8, by the rules 7, 8, 4, 5: card 2 gives the D that card 3 gives it.
+fn settle_supplied(label: &[u8], engine: Engine) -> Engine {
+    tell::settle(
+        label,
+        engine,
+        &[1, 1, 2, 2, 4, 1, 2, 2, 3, 3, 4, 2],
+        b"\x02\x01\x07\0\x02\x02\0\0\0\0\0\0\
+          \x03\x02\x08\0\x01\0\0\0\0\0\0\0\
+          \x04\x03\x04\0\x03\0\0\0\0\0\0\0\
+          \0\x04\x05\0\x02\x02\0\0\0\0\0\0",
+    )
+}
+
+pub(crate) fn supplied() {
+    let without = tell::calls(
+        tell::open(),
+        b"card 1's A for P8:I 1 1 1;\
+          card 2's B for P8:I 2 2 1;",
+    );
+    settle_supplied(b"P8 while nobody holds D", without);
+    let holding = tell::calls(without, b"card 3's D for P8:I 3 4 1;");
+    let e = settle_supplied(b"P8", holding);
+    tell::calls(
+        e,
+        b"card 1's kind D:H 1 4;\
+          card 2's kind D:H 2 4;\
+          card 3's kind D:H 3 4;",
+    );
+}
+
 // The ring's records at 1, 5 and 3, with records between them that nobody may read.
 pub(crate) fn other_order() {
     with_proof(

@@ -198,7 +198,7 @@ fn digit(byte: u8) -> Option<u64> {
 }
 
 /// Decodes a word into the front of the room; the bytes and the room left are answered.
-fn hexadecimal<'b>(word: &[u8], room: &'b mut [u8]) -> Option<(&'b [u8], &'b mut [u8])> {
+pub fn hexadecimal<'b>(word: &[u8], room: &'b mut [u8]) -> Option<(&'b [u8], &'b mut [u8])> {
     if word == b"-" {
         return Some((&[], room));
     }

@@ -237,38 +237,41 @@ fn ask(transfers: &[Transfer], unasked: u32, price: Transfer) -> Option<u32> {
     None
 }
 
-/// Questions 22 and 23. All gifts are taken before any receipt is added, so that nobody gives
-/// what the exchange itself brings; a refusal puts everything back.
+/// Questions 22 and 23. All receipts are added before any gift is taken, so that a card can pass on
+/// what the exchange itself brings; a refusal puts everything back. Nothing wraps, as no holding is
+/// over `MAX_SUM` before.
 fn move_tokens(holdings: &mut Holdings, transfers: &[Transfer]) -> Result<(), Refusal> {
+    for &[_, kind, receiver] in transfers {
+        holdings[slot(receiver, kind)] += 1;
+    }
     for (taken, &[giver, kind, _]) in transfers.iter().enumerate() {
         let held = &mut holdings[slot(giver, kind)];
         if *held == 0 {
-            return_gifts(holdings, &transfers[..taken]);
+            put_back(holdings, transfers, taken);
             return Err(Refusal::plain(22));
         }
         *held -= 1;
     }
-    for &[_, kind, receiver] in transfers {
-        holdings[slot(receiver, kind)] += 1;
-    }
     // Only a receiver can have grown.
     let within = |&[_, kind, receiver]: &Transfer| holdings[slot(receiver, kind)] <= MAX_SUM;
     if !transfers.iter().all(within) {
-        for &[_, kind, receiver] in transfers {
-            holdings[slot(receiver, kind)] -= 1;
-        }
-        return_gifts(holdings, transfers);
+        put_back(holdings, transfers, transfers.len());
         return Err(Refusal::plain(23));
     }
     Ok(())
 }
 
-fn return_gifts(holdings: &mut Holdings, transfers: &[Transfer]) {
-    for &[giver, kind, _] in transfers {
+/// Undoes so many gifts, and all receipts.
+fn put_back(holdings: &mut Holdings, transfers: &[Transfer], taken: usize) {
+    for &[giver, kind, _] in &transfers[..taken] {
         holdings[slot(giver, kind)] += 1;
+    }
+    for &[_, kind, receiver] in transfers {
+        holdings[slot(receiver, kind)] -= 1;
     }
 }
 
-fn slot(card: u8, kind: u8) -> usize {
+/// Where a card's tokens of a kind are among the holdings.
+pub fn slot(card: u8, kind: u8) -> usize {
     (usize::from(card) - 1) * KINDS + usize::from(kind) - 1
 }

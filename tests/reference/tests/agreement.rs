@@ -1,13 +1,19 @@
 //! The parts set beside each other over generated input.
 
-use reference::book::{Book, MAX_TEXT};
+use reference::book::{Book, Refusal, MAX_TEXT};
 use reference::commands::{Dialect, Session};
 use reference::decider::Decider;
 use reference::engine::{Engine, HOLDINGS, MAX_SUM};
-use reference::generate::{self, long_settlement, Settlement, Swap, Transcript};
+use reference::generate::{self, long_settlement, Giver, Part, Settlement, Swap, Transcript};
 use reference::random::Random;
 use reference::{ring, search, till};
 use std::collections::BTreeSet;
+
+/// Issues so many tokens of its kind to a giver.
+fn issue(engine: &mut Engine, giver: &Giver, count: u32) {
+    let answer = engine.issue(giver.card.into(), giver.kind.into(), count);
+    assert_eq!(answer, Ok(()));
+}
 
 #[test]
 fn some_proof_settles_exactly_the_fair_and_covered() {
@@ -25,9 +31,12 @@ fn some_proof_settles_exactly_the_fair_and_covered() {
             counts[usize::from(fair)] += 1;
             let Some(proof) = proof else { continue };
             let mut engine = engine.clone();
-            for &[giver, kind, _] in &exchange {
-                assert!(engine.settle(&exchange.concat(), &proof).is_err());
-                assert_eq!(engine.issue(giver.into(), kind.into(), 1), Ok(()));
+            for giver in Giver::all(&exchange) {
+                for _ in 0..giver.least() {
+                    let answer = engine.settle(&exchange.concat(), &proof);
+                    assert_eq!(answer, Err(Refusal::plain(22)));
+                    issue(&mut engine, &giver, 1);
+                }
             }
             assert_eq!(engine.settle(&exchange.concat(), &proof), Ok(()));
         }
@@ -42,11 +51,13 @@ fn till_answers_as_the_engine_does() {
         let random = &mut Random::new(8, case);
         let text = generate::valid(random);
         let (mut engine, _) = Engine::open(&text);
-        let swap = Swap::find(engine.book(), random);
+        let swap = Swap::some(engine.book(), random);
         let settlement = match &swap {
             Some(swap) => {
-                for &[giver, kind, _] in &swap.transfers {
-                    assert_eq!(engine.issue(giver.into(), kind.into(), 1), Ok(()));
+                for giver in Giver::all(&swap.transfers) {
+                    let least = giver.least();
+                    let held = random.pick(&[giver.given, least, least, least.saturating_sub(1)]);
+                    issue(&mut engine, &giver, held);
                 }
                 let mut settlement = swap.settlement(random);
                 if random.one_in(2) {
@@ -68,6 +79,35 @@ fn till_answers_as_the_engine_does() {
         settled += u32::from(answer == 0);
     }
     assert!(settled > 300, "{settled}");
+}
+
+#[test]
+fn receipts_have_each_part_in_generated_swaps() {
+    let mut counts = [0; Part::ALL.len()];
+    for case in 0..2_000 {
+        let random = &mut Random::new(14, case);
+        let (mut engine, _) = Engine::open(&generate::valid(random));
+        let Some(swap) = Swap::some(engine.book(), random) else {
+            continue;
+        };
+        let givers = Giver::all(&swap.transfers);
+        let held = match random.below(2) {
+            0 => givers.iter().map(Giver::least).collect(),
+            _ => generate::one_short(&givers, random),
+        };
+        for (giver, count) in givers.iter().zip(held) {
+            issue(&mut engine, giver, count);
+        }
+        let Some(part) = Part::of(engine.holdings(), &swap.transfers) else {
+            continue;
+        };
+        let Settlement { exchange, proof } = swap.settlement(random);
+        let answer = engine.settle(&exchange, &proof);
+        let number = answer.map_or_else(|refusal| refusal.number, |()| 0);
+        assert_eq!(number, part.answer(), "{exchange:?}");
+        counts[part as usize] += 1;
+    }
+    assert!(counts.iter().all(|&count| count > 30), "{counts:?}");
 }
 
 #[test]

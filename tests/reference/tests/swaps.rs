@@ -1,16 +1,34 @@
-//! The ring of three, and the swaps that document 01 lists, over the plain engine and the decider.
+//! The ring of three, the swaps that document 01 lists, and tokens that are passed on, over the
+//! plain engine and the decider.
 
 use reference::book::{Book, Refusal, Transfer};
 use reference::commands::Dialect;
 use reference::decider::Decider;
-use reference::engine::Engine;
-use reference::{ring, search};
+use reference::engine::{self, slot, Engine, HOLDINGS, MAX_SUM};
+use reference::{ring, search, till};
 
 const RING: &str = "1 A 2, 2 B 3, 3 C 1";
 const PAID: &str = "3 D 2, 1 B 3";
 const PAID_TWICE: &str = "3 D 2, 1 B 3, 2 B 3";
 const PAID_APART: &str = "3 D 2, 1 B 3, 2 B 3, 3 D 2";
 const CROSSED: &str = "1 A 2, 2 D 1, 2 B 3, 3 D 2";
+
+/// Bram, card 2, gives a bread voucher (B) for an egg token (E), and an egg token for a stamp (P);
+/// Cora, card 3, gives an egg token for a voucher, and Ana, card 1, a stamp for an egg token. All
+/// three give an A to anybody, and Ana a C.
+const MARKET: &str = "C 700056000016
+C 700012000019
+C 700012000027
+R 1 P a < a E *
+R 2 B a < a E *
+R 2 E a < a P *
+R 3 E a < a B *
+R 1 A a
+R 2 A a
+R 3 A a
+R 1 C a
+";
+const SUPPLY: &str = "3 E 2, 2 B 3, 2 E 1, 1 P 2";
 
 /// Reads `1 A 2, 2 B 3` into transfers.
 fn transfers(text: &str) -> Vec<Transfer> {
@@ -46,14 +64,14 @@ fn stocked(count: u32) -> Engine {
     engine
 }
 
-fn fair(exchange: &str) -> bool {
-    let book = Book::read(ring::BOOK.as_bytes()).expect("the ring's book opens");
-    Decider::new(&book).fair(&transfers(exchange))
-}
-
-fn proof(exchange: &str) -> Option<Vec<u8>> {
-    let book = Book::read(ring::BOOK.as_bytes()).expect("the ring's book opens");
-    search::proof(&book, &transfers(exchange))
+/// The proof that the search finds for an exchange over a book, which it does exactly if the decider
+/// has it fair.
+fn proof(text: &str, exchange: &str) -> Option<Vec<u8>> {
+    let book = Book::read(text.as_bytes()).expect("the book opens");
+    let exchange = transfers(exchange);
+    let proof = search::proof(&book, &exchange);
+    assert_eq!(proof.is_some(), Decider::new(&book).fair(&exchange));
+    proof
 }
 
 fn settle(engine: &mut Engine, exchange: &str, proof: &[u8]) -> Result<(), Refusal> {
@@ -66,14 +84,43 @@ fn refused(number: u8, place: u32) -> Result<(), Refusal> {
 
 /// Fair, and settled by a proof that the search finds.
 fn assert_settles(exchange: &str) {
-    assert!(fair(exchange), "{exchange}");
-    let proof = proof(exchange).expect("a fair exchange has a proof");
+    let proof = proof(ring::BOOK, exchange).expect(exchange);
     assert_eq!(settle(&mut stocked(9), exchange, &proof), Ok(()));
 }
 
 fn assert_unfair(exchange: &str) {
-    assert!(!fair(exchange), "{exchange}");
-    assert_eq!(proof(exchange), None, "{exchange}");
+    assert_eq!(proof(ring::BOOK, exchange), None, "{exchange}");
+}
+
+/// The engine's and the till's answer to a fair exchange over a book while such tokens are held as
+/// `1 A, 2 B` lists; after it each transfer has moved one, or the refusal none.
+fn settle_holding(text: &str, held: &str, exchange: &str) -> Result<(), Refusal> {
+    let (mut engine, _) = open(text);
+    for token in held.split_terminator(", ") {
+        let [card, b' ', kind] = *token.as_bytes() else {
+            panic!("{token} is no token");
+        };
+        let (card, kind) = (card - b'0', kind - b'A' + 1);
+        assert_eq!(engine.issue(card.into(), kind.into(), 1), Ok(()));
+    }
+    let mut expected = *engine.holdings();
+    let mut handed_in = expected;
+    let proof = proof(text, exchange).expect(exchange);
+    let answer = settle(&mut engine, exchange, &proof);
+    let transfers = transfers(exchange);
+    let number = till::call(text.as_bytes(), &mut handed_in, &transfers.concat(), &proof);
+    assert_eq!(number, answer.map_or_else(|refusal| refusal.number, |()| 0));
+    if answer.is_ok() {
+        for &[_, kind, receiver] in &transfers {
+            expected[slot(receiver, kind)] += 1;
+        }
+        for &[giver, kind, _] in &transfers {
+            expected[slot(giver, kind)] -= 1;
+        }
+    }
+    assert_eq!(*engine.holdings(), expected, "{held}: {exchange}");
+    assert_eq!(handed_in, expected, "{held}: {exchange}");
+    answer
 }
 
 #[test]
@@ -125,20 +172,15 @@ fn p7_second_token_pays() {
 }
 
 #[test]
-fn p8_nobody_gives_what_the_exchange_brings() {
-    assert!(fair(CROSSED));
-    let proof = proof(CROSSED).expect("a fair exchange has a proof");
-    let (mut engine, _) = open(ring::BOOK);
-    for (card, kind) in [(1, 1), (2, 2), (3, 4)] {
-        assert_eq!(engine.issue(card, kind, 1), Ok(()));
-    }
-    let before = *engine.holdings();
-    assert_eq!(settle(&mut engine, CROSSED, &proof), refused(22, 0));
-    assert_eq!(*engine.holdings(), before);
-    assert_eq!(engine.issue(2, 4, 1), Ok(()));
-    assert_eq!(settle(&mut engine, CROSSED, &proof), Ok(()));
-    for (card, kind, held) in [(1, 1, 0), (2, 1, 1), (2, 4, 1), (1, 4, 1), (3, 2, 1)] {
-        assert_eq!(engine.holding(card, kind), Ok(held));
+fn p8_what_comes_in_is_passed_on() {
+    for (held, answer) in [
+        ("1 A, 2 B, 3 D", Ok(())),
+        ("1 A, 2 B, 2 D, 3 D", Ok(())),
+        ("1 A, 2 B", refused(22, 0)),
+        ("1 A, 2 B, 2 D", refused(22, 0)),
+        ("1 A, 3 D", refused(22, 0)),
+    ] {
+        assert_eq!(settle_holding(ring::BOOK, held, CROSSED), answer, "{held}");
     }
 }
 
@@ -179,7 +221,7 @@ fn longest_exchange() {
     exchange.push(PAID);
     let full = exchange.join(", ");
     let mut engine = stocked(99);
-    let proof = proof(&full).expect("fair exchanges together are fair");
+    let proof = proof(ring::BOOK, &full).expect("fair exchanges together are fair");
     assert_eq!(transfers(&full).concat().len(), 96);
     assert_eq!(settle(&mut engine, &full, &proof), Ok(()));
     assert_eq!(engine.holding(1, 1), Ok(89));
@@ -217,4 +259,73 @@ fn chain_that_comes_back() {
 fn who_pays_needs_a_rule_too() {
     // Card 3 pays D for A, but wants B for its D, and nobody gives it any.
     assert_unfair("1 A 2, 3 D 1");
+}
+
+#[test]
+fn receipts_count_for_their_card_and_kind() {
+    let short = refused(22, 0);
+    for (held, exchange, answer) in [
+        ("1 P, 2 B, 3 E", SUPPLY, Ok(())),
+        ("1 P, 2 B", SUPPLY, short),
+        // The gift is listed after the receipt, and before it.
+        ("1 A", "1 A 2, 2 A 3", Ok(())),
+        ("1 A", "2 A 3, 1 A 2", Ok(())),
+        // One receipt is passed on twice.
+        ("1 A", "1 A 2, 2 A 3, 2 A 1", short),
+        ("1 A", "2 A 3, 1 A 2, 2 A 3", short),
+        ("1 A, 2 A", "2 A 3, 1 A 2, 2 A 3", Ok(())),
+        // A token that nobody holds goes round a ring, and nowhere else.
+        ("", "1 A 2, 2 A 3, 3 A 1", Ok(())),
+        ("", "3 A 1, 2 A 3, 1 A 2, 2 A 1", short),
+        ("", "1 A 2, 2 A 3", short),
+        // Receipts of another kind or another card do not help.
+        ("1 C", "1 C 2, 2 A 3", short),
+        ("1 A", "1 A 3, 2 A 3", short),
+        ("1 A", "1 A 3, 2 A 1", short),
+        ("3 A", "2 A 3", short),
+    ] {
+        let given = settle_holding(MARKET, held, exchange);
+        assert_eq!(given, answer, "{held}: {exchange}");
+    }
+}
+
+#[test]
+fn holding_plus_received_is_at_least_given() {
+    for (held, received) in (0..4).flat_map(|held| (0..4).map(move |received| (held, received))) {
+        for given in 1..8 {
+            let tokens = [vec!["2 A"; held], vec!["1 A"; received]].concat();
+            let mut transfers = [vec!["1 A 2"; received], vec!["2 A 3"; given]].concat();
+            let expected = match held + received >= given {
+                true => Ok(()),
+                false => refused(22, 0),
+            };
+            for _ in 0..2 {
+                let answer = settle_holding(MARKET, &tokens.join(", "), &transfers.join(", "));
+                assert_eq!(answer, expected, "{held}: {transfers:?}");
+                transfers.reverse();
+            }
+        }
+    }
+}
+
+/// Holdings are handed in here, as no call comes to more than 1,000,000,000 of a kind.
+#[test]
+fn who_lacks_a_token_is_asked_before_who_has_too_many() {
+    let book = Book::read(MARKET.as_bytes()).expect("the book opens");
+    for (held, exchange, answer) in [
+        (0, "1 A 2", refused(22, 0)),
+        (1, "1 A 2", refused(23, 0)),
+        (1, "1 A 2, 2 A 3", Ok(())),
+        (1, "2 A 3, 1 A 2", Ok(())),
+    ] {
+        let mut holdings = [0; HOLDINGS];
+        holdings[slot(1, 1)] = held;
+        holdings[slot(2, 1)] = MAX_SUM;
+        let before = holdings;
+        let proof = proof(MARKET, exchange).expect(exchange);
+        let transfers = transfers(exchange).concat();
+        let given = engine::settle(&book, &mut holdings, &transfers, &proof);
+        assert_eq!(given, answer, "{exchange}");
+        assert_eq!(holdings == before, answer.is_err(), "{exchange}");
+    }
 }

@@ -3,7 +3,7 @@
 use crate::large;
 use reference::book::{Book, KINDS, MAX_CARDS, MAX_TEXT};
 use reference::engine::{Engine, HOLDINGS, MAX_SUM};
-use reference::generate::{self, Settlement, Swap, Transcript};
+use reference::generate::{self, Giver, Settlement, Swap, Transcript};
 use reference::random::Random;
 use reference::search;
 
@@ -52,13 +52,20 @@ impl Case {
         Case::new(book, text, settlement, random)
     }
 
-    /// Mostly with holdings that cover the exchange.
+    /// Mostly with holdings that cover the exchange: each giver holds all that it gives, or just
+    /// what receipts do not bring. Some are one token short of that.
     fn new(book: &Book, text: Vec<u8>, settlement: Settlement, random: &mut Random) -> Case {
         let Settlement { exchange, proof } = settlement;
         let cards = book.cards.len();
         let mut holdings = vec![0; HOLDINGS];
-        for slot in given(&exchange, cards) {
-            holdings[slot] += 1;
+        let givers = givers(&exchange, cards);
+        let counts = match random.below(5) {
+            0 => generate::one_short(&givers, random),
+            1 | 2 => givers.iter().map(Giver::least).collect(),
+            _ => givers.iter().map(|giver| giver.given).collect(),
+        };
+        for (giver, count) in givers.iter().zip(counts) {
+            holdings[giver.slot()] = count;
         }
         if cards > 0 {
             for _ in 0..random.below(8) {
@@ -66,7 +73,7 @@ impl Case {
                 holdings[slot] += random.pick(&[1, 2, 1_000, 10_000_000]);
             }
         }
-        change(&mut holdings, cards, &exchange, random);
+        change(&mut holdings, cards, &givers, random);
         Case {
             text,
             holdings,
@@ -194,23 +201,21 @@ fn fill(holdings: &mut [u32], cards: usize, kind: usize, sum: u64) {
     }
 }
 
-/// Where each token that the declared cards give is held.
-fn given(exchange: &[u8], cards: usize) -> Vec<usize> {
-    let (transfers, _) = exchange.as_chunks::<3>();
-    transfers
-        .iter()
-        .map(|transfer| transfer.map(usize::from))
-        .filter(|[giver, kind, _]| (1..=cards).contains(giver) && (1..=KINDS).contains(kind))
-        .map(|[giver, kind, _]| (giver - 1) * KINDS + kind - 1)
-        .collect()
+/// The declared cards that give of a kind that there is.
+fn givers(exchange: &[u8], cards: usize) -> Vec<Giver> {
+    let (transfers, _) = exchange.as_chunks();
+    let mut givers = Giver::all(transfers);
+    givers.retain(|giver| {
+        (1..=cards).contains(&giver.card.into()) && (1..=KINDS).contains(&giver.kind.into())
+    });
+    givers
 }
 
 /// Leaves most holdings as they are, and others about a limit or over it.
-fn change(holdings: &mut Vec<u32>, cards: usize, exchange: &[u8], random: &mut Random) {
-    let given = given(exchange, cards);
-    let kind = match given.as_slice() {
+fn change(holdings: &mut Vec<u32>, cards: usize, givers: &[Giver], random: &mut Random) {
+    let kind = match givers {
         [] => random.within(1, KINDS),
-        given => random.pick(given) % KINDS + 1,
+        givers => givers[random.below(givers.len())].kind.into(),
     };
     match random.below(20) {
         0 => {
@@ -228,9 +233,9 @@ fn change(holdings: &mut Vec<u32>, cards: usize, exchange: &[u8], random: &mut R
             let (_, from) = holdings.split_at_mut(random.below(cards.max(1)) * KINDS);
             fill(from, 1, kind, u64::from(MAX_SUM) - random.pick(&[0, 1, 32]));
         }
-        4 | 5 if !given.is_empty() => {
-            let held = &mut holdings[random.pick(&given)];
-            *held = random.below(*held as usize) as u32;
+        4 | 5 if !givers.is_empty() => {
+            let held = &mut holdings[givers[random.below(givers.len())].slot()];
+            *held = random.below(*held as usize + 1) as u32;
         }
         6 => holdings.fill_with(|| random.draw() as u32),
         7 => holdings.fill(0),
@@ -241,11 +246,7 @@ fn change(holdings: &mut Vec<u32>, cards: usize, exchange: &[u8], random: &mut R
 fn some_settlement(book: &Book, random: &mut Random) -> Settlement {
     let swap = match random.below(8) {
         0 => None,
-        1 | 2 => Swap::find_long(book, random),
-        // Short swaps are found most easily, and try the least.
-        _ => (0..3)
-            .filter_map(|_| Swap::find(book, random))
-            .max_by_key(|swap| swap.transfers.len()),
+        _ => Swap::some(book, random),
     };
     let Some(swap) = swap else {
         return some_bytes(random);

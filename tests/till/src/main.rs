@@ -5,7 +5,7 @@
 
 mod room;
 
-use reference::generate::hyphened;
+use reference::generate::{hyphened, Part};
 use reference::random::Random;
 use reference::till;
 use room::Room;
@@ -62,22 +62,33 @@ fn usage() -> ExitCode {
     ExitCode::from(2)
 }
 
-/// How often each answer was given, and how often hyphens had a part in it.
+/// How often each answer was given, and how often hyphens or receipts had a part in it.
 #[derive(Default)]
 struct Tally {
     all: [u64; LAST + 1],
     hyphened: [u64; LAST + 1],
+    /// By the receipts' part.
+    receipts: [[u64; LAST + 1]; Part::ALL.len()],
 }
 
 impl Tally {
-    fn count(&mut self, answer: usize, text: &[u8]) {
+    fn count(&mut self, answer: usize, case: &Case) {
         self.all[answer] += 1;
-        self.hyphened[answer] += u64::from(hyphened(text));
+        self.hyphened[answer] += u64::from(hyphened(&case.text));
+        if answer == 0 || answer == 22 {
+            let (transfers, _) = case.exchange.as_chunks();
+            if let Some(part) = Part::of(&case.holdings, transfers) {
+                self.receipts[part as usize][answer] += 1;
+            }
+        }
     }
 
     fn add(&mut self, other: &Tally) {
         let counts = self.all.iter_mut().chain(&mut self.hyphened);
-        for (count, more) in counts.zip(other.all.iter().chain(&other.hyphened)) {
+        let counts = counts.chain(self.receipts.as_flattened_mut());
+        let more = other.all.iter().chain(&other.hyphened);
+        let more = more.chain(other.receipts.as_flattened());
+        for (count, more) in counts.zip(more) {
             *count += more;
         }
     }
@@ -89,6 +100,12 @@ impl Tally {
             let (all, hyphened) = (self.all[answer], self.hyphened[answer]);
             let _ = writeln!(table, "{answer:>5} {all:>8} {hyphened:>8}");
         }
+        table.push_str("each answer in which receipts have a part\n");
+        for part in Part::ALL {
+            let (answer, name) = (part.answer(), part.name());
+            let count = self.receipts[part as usize][usize::from(answer)];
+            let _ = writeln!(table, "{answer:>5} {count:>8} {name}");
+        }
         table.pop();
         table
     }
@@ -98,8 +115,14 @@ impl Tally {
         let expected = EXPECTED.concat();
         let mut hyphened = expected.clone();
         hyphened.retain(|answer| !UNHYPHENED.contains(answer));
+        let receipts = |part: Part| {
+            let counts = &self.receipts[part as usize];
+            let when = format!(" where receipts have a part: {}", part.name());
+            complaint(counts, &[part.answer().into()], &when)
+        };
         complaint(&self.all, &expected, "")
             .or_else(|| complaint(&self.hyphened, &hyphened, " where there are hyphens"))
+            .or_else(|| Part::ALL.into_iter().find_map(receipts))
     }
 }
 
@@ -174,7 +197,7 @@ fn compare(case: &Case, random: &mut Random, tally: &mut Tally) -> Result<(), St
             return Err(format!("answer {answer}: the {name}, or what is around it"));
         }
     }
-    tally.count(number.into(), &case.text);
+    tally.count(number.into(), case);
     Ok(())
 }
 

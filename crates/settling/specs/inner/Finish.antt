@@ -2,14 +2,14 @@
 use mathlib.Core.Path.{_≡_}
 use mathlib.Core.Bool.{cond}
 use mathlib.Core.List.{List}
-use Prim.Native.Nat.{ℕ, _≤_, _<_, min}
+use Prim.Native.Nat.{ℕ, _<_, min}
 use lib.Dec.{eqb}
 use lib.ListN.{length}
 use Rattle.model.specs.Limits.{cardLimit}
 use Rattle.model.specs.Questions.{ok, refused, done}
 use Rattle.model.specs.Book.{Book}
-use Rattle.model.specs.Transfers.{transferAt, exchangeOf}
-use Rattle.model.specs.Holdings.{settled}
+use Rattle.model.specs.Transfers.{exchangeOf}
+use Rattle.model.specs.Holdings.{receives, settled}
 use Rattle.model.specs.Calls.{lastQuestions}
 use Rattle.accounts.specs.View.{stateFrom}
 use Rattle.accounts.specs.Answered.{Declares}
@@ -18,7 +18,8 @@ use Rattle.settling.specs.inner.Moves.{Proper}
 -- what questions 12 to 21 have shown of an exchange of n transfers
 pub record Judged (cards : ℕ) (e : List ℕ) (n : ℕ) : Type 0 where
   pub proper : Proper e n
-  pub declared : (i : ℕ) → i < n → transferAt e i .receiver ≤ min cards cardLimit
+  -- an undeclared card receives nothing
+  pub undeclared : (c k : ℕ) → min cards cardLimit < c → receives c k (exchangeOf e) ≡ 0
 
 -- the number of the first question that is answered no, or 0; then the exchange is moved, and otherwise nothing is
 pub record Finished (declared : ℕ) (h e : List ℕ) (refusal : ℕ) (h′ : List ℕ) : Type 0 where

@@ -440,9 +440,13 @@ fn lines(shape: &Shape, random: &mut Random) -> Vec<String> {
 fn ring_lines(shape: &Shape, length: usize, random: &mut Random) -> Vec<String> {
     let mut cards: Vec<usize> = (1..=shape.cards).collect();
     random.shuffle(&mut cards);
-    let kinds: Vec<char> = (0..length)
+    let mut kinds: Vec<char> = (0..length)
         .map(|_| char::from(b'A' + random.below(shape.kinds) as u8))
         .collect();
+    // Often one kind for all, so that a token may go round.
+    if length > 0 && random.one_in(3) {
+        kinds = vec![kinds[0]; length];
+    }
     (0..length)
         .map(|place| {
             let before = kinds[(place + length - 1) % length];

@@ -1,6 +1,6 @@
 //! Exchanges with proofs: right ones by construction, and ones with damage.
 
-use crate::book::{Book, Transfer, KINDS, VARIABLES};
+use crate::book::{Book, Rule, Transfer, KINDS, VARIABLES};
 use crate::random::Random;
 use crate::search::Choice;
 
@@ -22,32 +22,73 @@ pub struct Settlement {
 }
 
 impl Swap {
+    /// One of any sort, where the book has any.
+    pub fn some(book: &Book, random: &mut Random) -> Option<Swap> {
+        match random.below(6) {
+            0 => Swap::find_long(book, random),
+            1 => Swap::find(book, random),
+            2 | 3 => Swap::find_passed_on(book, random),
+            // Short swaps are found most easily, and try the least.
+            _ => (0..4)
+                .filter_map(|_| Swap::find(book, random))
+                .max_by_key(|swap| swap.transfers.len()),
+        }
+    }
+
     /// Starts from a gift and adds what is asked for it, and what is asked for that, until
     /// nothing is left to ask. Most books allow it for some gift.
     pub fn find(book: &Book, random: &mut Random) -> Option<Swap> {
-        if book.rules.is_empty() {
-            return None;
-        }
-        (0..40).find_map(|_| Swap::grow(book, random))
+        let rules: Vec<_> = book.rules.iter().collect();
+        Swap::find_by(&rules, book, random)
     }
 
     /// As many swaps together as fit into one exchange; together they are fair again.
-    pub fn find_long(book: &Book, random: &mut Random) -> Option<Swap> {
+    fn find_long(book: &Book, random: &mut Random) -> Option<Swap> {
         let mut long = Swap::find(book, random)?;
         for _ in 0..60 {
             let Some(more) = Swap::find(book, random) else {
                 break;
             };
-            if long.transfers.len() + more.transfers.len() <= MAX_TRANSFERS {
-                long.transfers.extend(more.transfers);
-                long.choices.extend(more.choices);
-            }
+            long.join(more);
         }
         Some(long)
     }
 
-    fn grow(book: &Book, random: &mut Random) -> Option<Swap> {
-        let rule = &book.rules[random.below(book.rules.len())];
+    /// Swaps together in which receivers give of the kinds that they receive, where they can. The
+    /// transfers are in any order, as a receipt counts wherever it is.
+    fn find_passed_on(book: &Book, random: &mut Random) -> Option<Swap> {
+        let mut swap = Swap::find(book, random)?;
+        for _ in 0..random.within(1, 6) {
+            let [_, kind, receiver] = random.pick(&swap.transfers);
+            let gives_on = |rule: &&Rule| (rule.owner, rule.kind) == (receiver, kind);
+            let rules: Vec<_> = book.rules.iter().filter(gives_on).collect();
+            if let Some(more) = Swap::find_by(&rules, book, random) {
+                swap.join(more);
+            }
+        }
+        let mut transfers: Vec<_> = swap.transfers.into_iter().zip(swap.choices).collect();
+        random.shuffle(&mut transfers);
+        let (transfers, choices) = transfers.into_iter().unzip();
+        Some(Swap { transfers, choices })
+    }
+
+    /// A swap that starts from a gift by one of the rules.
+    fn find_by(rules: &[&Rule], book: &Book, random: &mut Random) -> Option<Swap> {
+        if rules.is_empty() {
+            return None;
+        }
+        (0..40).find_map(|_| Swap::grow(random.pick(rules), book, random))
+    }
+
+    /// Adds another swap, if it fits into the exchange too.
+    fn join(&mut self, more: Swap) {
+        if self.transfers.len() + more.transfers.len() <= MAX_TRANSFERS {
+            self.transfers.extend(more.transfers);
+            self.choices.extend(more.choices);
+        }
+    }
+
+    fn grow(rule: &Rule, book: &Book, random: &mut Random) -> Option<Swap> {
         let receiver = random.within(1, book.cards.len()) as u8;
         // A gift that asks nothing tries little, so most of them are passed over.
         if receiver == rule.owner || (rule.prices.is_empty() && !random.one_in(6)) {

@@ -2,6 +2,7 @@
 
 use super::books::{self, damaged, limits, small, valid};
 use super::lines::{self, hexadecimal};
+use super::receipts::{one_short, Giver};
 use super::swaps::{Settlement, Swap};
 use crate::book::KINDS;
 use crate::commands::{Dialect, Session};
@@ -149,18 +150,6 @@ impl Script {
         self.settle(&Settlement::noise(random));
     }
 
-    fn some_swap(&self, random: &mut Random) -> Option<Swap> {
-        let book = self.engine().book();
-        match random.below(4) {
-            0 => Swap::find_long(book, random),
-            1 => Swap::find(book, random),
-            // Short swaps are found most easily, and try the least.
-            _ => (0..4)
-                .filter_map(|_| Swap::find(book, random))
-                .max_by_key(|swap| swap.transfers.len()),
-        }
-    }
-
     fn simple(&mut self, random: &mut Random) {
         let cards = self.engine().book().cards.len().max(1);
         let card = random.within(1, cards) as u32;
@@ -218,7 +207,7 @@ impl Script {
 
     /// Settlements around one swap, where the book has any.
     fn swap(&mut self, random: &mut Random) {
-        match self.some_swap(random) {
+        match Swap::some(self.engine().book(), random) {
             Some(swap) => self.settle_around(&swap, random),
             None => self.unlikely(random),
         }
@@ -228,26 +217,22 @@ impl Script {
     fn settle_around(&mut self, swap: &Swap, random: &mut Random) {
         let settlement = swap.settlement(random);
         match random.below(16) {
-            0 | 1 => self.settle_and_query(swap, &settlement),
-            2 => {
-                self.cover(swap);
-                let [giver, kind, _] = random.pick(&swap.transfers).map(u32::from);
-                let held = self.engine().holding(giver, kind).unwrap_or(0);
-                let given = gifts(swap, giver, kind);
-                self.redeem(giver, kind, (held + 1).saturating_sub(given));
+            0 | 1 => self.settle_and_query(swap, &settlement, random),
+            2 | 3 => {
+                self.leave_one_short(swap, random);
                 self.settle(&settlement);
-                self.settle_and_query(swap, &settlement);
+                self.settle_and_query(swap, &settlement, random);
             }
-            3 if swap.transfers.len() > 1 => {
+            4 if swap.transfers.len() > 1 => {
                 let less = swap.without_one(random);
-                self.settle_and_query(&less, &less.settlement(random));
-            }
-            4 => {
-                let more = swap.with_one(self.engine().book(), random);
-                self.settle_and_query(&more, &more.settlement(random));
+                self.settle_and_query(&less, &less.settlement(random), random);
             }
             5 => {
-                self.cover(swap);
+                let more = swap.with_one(self.engine().book(), random);
+                self.settle_and_query(&more, &more.settlement(random), random);
+            }
+            6 => {
+                self.cover(swap, random);
                 let line = settle_line(&settlement).into_bytes();
                 self.line(lines::damaged(line, random));
             }
@@ -256,14 +241,14 @@ impl Script {
                 for _ in 0..random.pick(&[1, 1, 1, 2]) {
                     damaged.damage(self.engine().book(), random);
                 }
-                self.settle_and_query(swap, &damaged);
+                self.settle_and_query(swap, &damaged, random);
             }
         }
     }
 
     /// Issues what the swap's givers lack, settles, and asks what came of it.
-    fn settle_and_query(&mut self, swap: &Swap, settlement: &Settlement) {
-        self.cover(swap);
+    fn settle_and_query(&mut self, swap: &Swap, settlement: &Settlement, random: &mut Random) {
+        self.cover(swap, random);
         self.settle(settlement);
         for &[giver, kind, receiver] in swap.transfers.iter().take(3) {
             self.query(giver.into(), kind.into());
@@ -271,22 +256,40 @@ impl Script {
         }
     }
 
-    fn cover(&mut self, swap: &Swap) {
-        for transfer in &swap.transfers {
-            let [giver, kind, _] = transfer.map(u32::from);
-            let held = self.engine().holding(giver, kind).unwrap_or(0);
-            let given = gifts(swap, giver, kind);
-            if held < given {
-                self.issue(giver, kind, given - held);
-            }
+    /// Each giver holds all that it gives, or just what receipts do not bring.
+    fn cover(&mut self, swap: &Swap, random: &mut Random) {
+        let all = random.one_in(2);
+        for giver in Giver::all(&swap.transfers) {
+            let count = match all {
+                true => self.held(&giver).max(giver.given),
+                false => giver.least(),
+            };
+            self.bring(&giver, count);
         }
     }
-}
 
-/// How many tokens of a kind a card gives in a swap.
-fn gifts(swap: &Swap, card: u32, kind: u32) -> u32 {
-    let given = |transfer: &&[u8; 3]| transfer.map(u32::from)[..2] == [card, kind];
-    swap.transfers.iter().filter(given).count() as u32
+    /// Each giver holds just what receipts do not bring, and one of them a token less.
+    fn leave_one_short(&mut self, swap: &Swap, random: &mut Random) {
+        let givers = Giver::all(&swap.transfers);
+        for (giver, count) in givers.iter().zip(one_short(&givers, random)) {
+            self.bring(giver, count);
+        }
+    }
+
+    /// Issues or redeems, so that the giver holds so many of its kind.
+    fn bring(&mut self, giver: &Giver, count: u32) {
+        let (card, kind, held) = (giver.card.into(), giver.kind.into(), self.held(giver));
+        if held < count {
+            self.issue(card, kind, count - held);
+        }
+        if held > count {
+            self.redeem(card, kind, held - count);
+        }
+    }
+
+    fn held(&self, giver: &Giver) -> u32 {
+        self.engine().holdings()[giver.slot()]
+    }
 }
 
 fn settle_line(settlement: &Settlement) -> String {

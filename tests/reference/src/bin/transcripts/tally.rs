@@ -1,8 +1,8 @@
 //! Which answers were met in a run, and how often.
 
 use crate::report::{first_word, lines};
-use reference::commands::Dialect;
-use reference::generate::{hyphened, Transcript};
+use reference::commands::{hexadecimal, Dialect, Session};
+use reference::generate::{hyphened, Part, Transcript};
 use std::collections::BTreeMap;
 use std::fmt::Write;
 
@@ -13,8 +13,9 @@ const HYPHENS: &str = "hyphens";
 const NONE: &str = "none";
 
 /// Each command's letter, the first words of its answers, and the programs that must have given
-/// all of them in a run. No program may give any other; 23 cannot happen, nor can 6 and 7 to a line
-/// with a hyphen, which is a card's or has no form.
+/// all of them in a run; those to `S` again where receipts have a part in them. No program may give
+/// any other; 23 cannot happen, nor can 6 and 7 to a line with a hyphen, which is a card's or has
+/// no form.
 const ANSWERS: &[(&str, &str, &[Dialect])] = &[
     (BOOK, "book 1 2 3 4 5 6 7 bad", &Dialect::ALL),
     (HYPHENS, "book 1 2 3 4 5", &Dialect::ALL),
@@ -22,6 +23,11 @@ const ANSWERS: &[(&str, &str, &[Dialect])] = &[
     ("D", "0 8 9 11", &Dialect::ALL),
     ("H", "= 8 9", &Dialect::ALL),
     ("S", "0 12 13 14 15 16 17 18 19 20 21 22", &Dialect::ALL),
+    (Part::PassedOn.name(), "0", &Dialect::ALL),
+    (Part::Round.name(), "0", &Dialect::ALL),
+    (Part::Twice.name(), "22", &Dialect::ALL),
+    (Part::OneShort.name(), "22", &Dialect::ALL),
+    (Part::OtherKind.name(), "22", &Dialect::ALL),
     (NONE, "bad", &Dialect::ALL),
 ];
 
@@ -48,12 +54,24 @@ impl Tally {
                 self.count(HYPHENS.as_bytes(), word);
             }
         }
+        // The same run again, for what is held before each line.
+        let unread = &mut Vec::new();
+        let Some(mut session) = Session::open(self.dialect, transcript.book.text(), unread) else {
+            return;
+        };
         for (word, line) in answers.zip(lines(&transcript.input)) {
             let command = match word {
                 b"bad" => NONE.as_bytes(),
                 _ => line.get(..1).unwrap_or_default(),
             };
             self.count(command, word);
+            if let (b"S", b"0" | b"22") = (command, word) {
+                if let Some(part) = part(session.engine().holdings(), line) {
+                    self.count(part.name().as_bytes(), word);
+                }
+            }
+            session.feed(line, unread);
+            session.finish(unread);
         }
     }
 
@@ -87,11 +105,20 @@ impl Tally {
     }
 }
 
+/// The part of receipts in the answer to a well-formed settlement.
+fn part(holdings: &[u32], line: &[u8]) -> Option<Part> {
+    let word = line.split(|&byte| byte == b' ').nth(1)?;
+    let mut room = vec![0; word.len()];
+    let (exchange, _) = hexadecimal(word, &mut room)?;
+    let (transfers, _) = exchange.as_chunks();
+    Part::of(holdings, transfers)
+}
+
 /// A row for each answer of a command, with a column for each program.
 pub fn table(tallies: &[Tally]) -> String {
     let mut table = String::new();
     let mut row = |command: &str, word: &str, cell: &dyn Fn(&Tally) -> String| {
-        let _ = write!(table, "{command:<8} {word:>4}");
+        let _ = write!(table, "{command:<10} {word:>4}");
         for tally in tallies {
             let _ = write!(table, " {:>9}", cell(tally));
         }
