@@ -31,9 +31,10 @@ extern "C" {
 #endif
 
 /*
- * Raised when an answer's meaning changes, or when a text that was refused is taken. 2: card lines may have hyphens; a call whose text has
- * none is answered as in 1. 3: a card may give what it receives in the same exchange, so some calls that 2 answers with 22 settle; all
- * others are answered as in 2. The archive does not tell its version: build it from the commit that the header is of.
+ * Raised when some call is answered otherwise than before. 2: card lines may have hyphens; a call whose text has none is answered as in 1.
+ * 3: a card may give what it receives in the same exchange, so some calls that 2 answers with 22 are answered 0; every other call is answered
+ * as in 2. A host that asks by itself whether givers hold what they give has to leave that out. The archive does not tell its version: build
+ * it from the commit that the header is of.
  */
 #define THAWCROFT_VERSION 3
 
@@ -68,12 +69,13 @@ enum thawcroft_answer {
     THAWCROFT_CONDITION_UNMET = 19, /* a condition does not hold */
     THAWCROFT_BAD_LINK = 20,        /* next does not end the chain with the last claim, or is no record */
     THAWCROFT_PRICE_UNPAID = 21,    /* a transfer is asked as a price more often than it occurs */
-    THAWCROFT_NOT_COVERED = 22,     /* a card's holding of a kind plus what it receives of it in the exchange is less than what it gives */
+    THAWCROFT_NOT_COVERED = 22,     /* a card gives more of a kind than it holds plus what it receives of it */
     THAWCROFT_HOLDING_EXCEEDED = 23 /* a card would end with over 1,000,000,000; never the answer, since 24 rules it out */
 };
 
 /*
- * Answers 0, or the number of the first question, in the order 1 to 7, 24, 12 to 23, that is answered no.
+ * Answers 0, or the number of the first question, in the order 1 to 7, 24, 12 to 23, that is answered no. docs/REFUSALS.md says, for each
+ * number, what to look at.
  * On 0 the holdings are rewritten, all 512; on any other answer each of the lent numbers is as it was. No state is kept between
  * calls, nothing is allocated (the call takes 9 KB of stack), and two threads may call it at once with holdings of their own.
  *

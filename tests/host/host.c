@@ -1,6 +1,6 @@
 /*
- * A till host: the ring of document 01, and a call for each refusal. Every case checks the answer and every number of the
- * holdings, with a number before and after them; one line each. Exit status 1 where one fails.
+ * A till host: the ring of document 01, P8, in which a card gives what it receives, and a call for each refusal but 23. Every case
+ * checks the answer and every number of the holdings, with a number before and after them; one line each. Exit status 1 where one fails.
  */
 #include <stdio.h>
 #include <string.h>
@@ -285,7 +285,7 @@ static void records(void) {
     in_proof("a price that nobody pays", 5, 2, THAWCROFT_PRICE_UNPAID);
 }
 
-/* So many transfers in the ring's place, with a record for each. */
+/* So many transfers in the place of the ring's, and a proof with a record for each. */
 static void propose(const uint8_t *exchange, const uint8_t *proof, size_t transfers) {
     call.exchange_length = transfers * 3;
     memcpy(call.exchange, exchange, call.exchange_length);
@@ -322,9 +322,9 @@ static void passed_on(void) {
     };
     ring();
     propose(exchange, proof, 4);
-    refused("card 2 passes on a D that nobody holds", THAWCROFT_NOT_COVERED);
+    refused("card 3 neither holds nor receives the D that it gives", THAWCROFT_NOT_COVERED);
     hold(3, 4, 1);
-    settled("card 2 passes on card 3's D");
+    settled("card 2 gives the D that it receives");
 }
 
 /* An empty slice's pointer is not read. */

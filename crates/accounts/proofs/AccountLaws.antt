@@ -8,7 +8,7 @@ use native.Mathlib.Omega.{arith}
 use lib.Dec.{eqb, leb, eqb→eq}
 use lib.ListN.{length, getD, set, length-set}
 use borrow.Author.Tests.{le-leb, lt-leb}
-use Rattle.model.specs.Limits.{cardLimit, kindCount, sumLimit, holdingCount}
+use Rattle.model.specs.Limits.{cardLimit, kindCount, sumLimit, holdingCount, numberMost}
 use Rattle.model.specs.Lists.{within}
 use Rattle.model.specs.Questions as model
 use Rattle.model.specs.Questions.{Question, _unless_, inOrder}
@@ -186,7 +186,7 @@ module _ (n : ℕ) (h : List ℕ) (c k : ℕ) where
 pub record SumTo (h : List ℕ) (k sum i : ℕ) : Type 0 where
   pub some : i ≤ cardLimit
   pub is : sum ≡ sumTo (λ c. stateFrom h .held c k) i
-  pub small : sum ≤ i * 4294967295
+  pub small : sum ≤ i * numberMost
 
 pub sum-none : (h : List ℕ) (k : ℕ) → SumTo h k 0 0
 unfolding sumTo

@@ -18,10 +18,10 @@ use Rattle.model.specs.Holdings.{State, receives, sumTo, total}
 use Rattle.model.specs.Calls.{Call, issue, redeem, query, settle, accountQuestions, replyTo, amount, issues, redeems, receivedIn, givenIn, changed, after}
 use Rattle.model.proofs.Tests.{eq-T, eqb-same, within→, zero-or-more}
 use Rattle.model.proofs.Questions.{inOrder-ok}
-use Rattle.model.proofs.Sums.{sum-add, sum-same, sum-zero, sum-point, and-scale, proper-receiver, proper-kind, given-is-received, with-side}
-use Rattle.model.proofs.Settling.{settled-ok}
+use Rattle.model.proofs.Sums.{sum-add, sum-same, sum-zero, sum-point, and-scale, proper-receiver, proper-kind, with-side}
+use Rattle.model.proofs.Settling.{settled-ok, conserved}
 
--- ---- a call that is not refused takes no more than there is and it brings
+-- ---- a call that is not refused takes no more than what is held and what it brings
 
 abbrev pub Suffices : State → Call → Type 0
 Suffices s call = (d j : ℕ) → redeems call d j + givenIn call d j ≤ s .held d j + (issues call d j + receivedIn call d j)
@@ -112,12 +112,7 @@ module _ (b : Book) (few : length (b .cards) ≤ cardLimit) where
       ∙ sym (ap (λ (x : Bool). oneIf (x && eqb j k) * n) (eqb-same c))
 
   pub settling-keeps : (s : State) (e p : List ℕ) (k : ℕ) (t : Told) → replyTo b s (settle e p) ≡ ok t → total (changed s (settle e p)) k ≡ total s k
-  settling-keeps s e p k t h = omega (
-    arith,
-    balance s (settle e p) (suffices b s (settle e p) t h) k,
-    sum-zero cardLimit,
-    given-is-received b cardLimit k (exchangeOf e) few (settled-ok b s e p t h .among),
-  )
+  settling-keeps s e p k t h = let q = settled-ok b s e p t h in conserved b few s (exchangeOf e) (q .among) (q .covered) k
 
   pub issuing-adds : (s : State) (c j n k : ℕ) (t : Told) → replyTo b s (issue c j n) ≡ ok t → total (changed s (issue c j n)) k ≡ total s k + amount c j n c k
   unfolding replyTo

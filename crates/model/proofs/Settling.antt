@@ -16,8 +16,8 @@ use Rattle.model.specs.Fairness.{Fair, isProper, Among}
 use Rattle.model.specs.Holdings.{State, gives, receives, Covered, isCovered, settled, sumTo, total}
 use Rattle.model.specs.Proof.{recordAt, next, asked, marked, recordQuestions, chain, judgeChain}
 use Rattle.model.specs.Calls.{query, settle, accountQuestions, isSized, endsLimited, judging, replyTo}
-use Rattle.model.proofs.Tests.{T-eq, both}
-use Rattle.model.proofs.Places.{upTo-length, every-oneTo}
+use Rattle.model.proofs.Tests.{T-eq, both, every-in}
+use Rattle.model.proofs.Places.{upTo-length, every-oneTo, in-oneTo}
 use Rattle.model.proofs.Questions.{inOrder-ok, inOrder-met, andThen-ok}
 use Rattle.model.proofs.Soundness.{passed-fair}
 use Rattle.model.proofs.Completeness.{Shaped, complete}
@@ -79,6 +79,20 @@ pub query-tells : (b : Book) (s : State) (c k : ℕ) (t : Told) → replyTo b s 
 unfolding replyTo
 query-tells b s c k t h = let r = inOrder-ok (accountQuestions b c k) 0 (ok (holding (s .held c k))) t h .1 in cc
 
+-- ---- question 23, at every declared card and kind
+
+module _ (b : Book) (s : State) (X : Exchange) where
+  pub ends→ : T (endsLimited b s X) → (c k : ℕ) → 1 ≤ c → c ≤ length (b .cards) → 1 ≤ k → k ≤ kindCount → settled s X c k ≤ sumLimit
+  ends→ h c k i j u w =
+      let per-card = every-in (λ d. every (λ l. leb (settled s X d l) sumLimit) (oneTo kindCount)) c (oneTo (length (b .cards))) (in-oneTo c (length (b .cards)) i j) h in
+      leb→le (settled s X c k) sumLimit (every-in (λ l. leb (settled s X c l) sumLimit) k (oneTo kindCount) (in-oneTo k kindCount u w) per-card)
+
+  pub →ends : ((c k : ℕ) → 1 ≤ c → c ≤ length (b .cards) → 1 ≤ k → k ≤ kindCount → settled s X c k ≤ sumLimit) → T (endsLimited b s X)
+  →ends f =
+      every-oneTo (λ c. every (λ k. leb (settled s X c k) sumLimit) (oneTo kindCount)) (length (b .cards)) (λ c i j.
+      every-oneTo (λ k. leb (settled s X c k) sumLimit) kindCount (λ k u w.
+      le→leb (settled s X c k) sumLimit (f c k i j u w)))
+
 -- ---- no settlement creates tokens, so no holding passes the limit of its kind's sum
 
 module _ (b : Book) (few : length (b .cards) ≤ cardLimit) (s : State) (X : Exchange) (among : Among b X) (covered : Covered s X) where
@@ -90,10 +104,7 @@ module _ (b : Book) (few : length (b .cards) ≤ cardLimit) (s : State) (X : Exc
       omega (arith, p, q, given-is-received b cardLimit k X few among)
 
   pub ends-limited : ((k : ℕ) → total s k ≤ sumLimit) → T (endsLimited b s X)
-  ends-limited limit =
-      every-oneTo (λ c. every (λ k. leb (settled s X c k) sumLimit) (oneTo kindCount)) (length (b .cards)) (λ c i j.
-      every-oneTo (λ k. leb (settled s X c k) sumLimit) kindCount (λ k u w.
-      le→leb (settled s X c k) sumLimit (omega (arith, sum-part (λ d. settled s X d k) cardLimit c i (omega arith), conserved k, limit k))))
+  ends-limited limit = →ends b s X (λ c k i j u w. omega (arith, sum-part (λ d. settled s X d k) cardLimit c i (omega arith), conserved k, limit k))
 
 -- ---- a fair covered exchange settles
 

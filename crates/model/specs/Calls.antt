@@ -42,7 +42,7 @@ judging b e p =
     (inOrder ((14 unless isSized recordSize proofLimit p) ∷ []) 0
     (judgeChain b (exchangeOf e) p)))
 
--- questions 22 and 23
+-- "does every card, for every kind, have holding plus received at least equal to given?" 22, then 23
 abbrev pub lastQuestions : Book → State → Exchange → Reply
 lastQuestions b s X = inOrder ((22 unless isCovered s X) ∷ (23 unless endsLimited b s X) ∷ []) 0 (ok done)
 

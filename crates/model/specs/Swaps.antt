@@ -1,5 +1,5 @@
--- The cases of document 01 that are marked P ("Swaps that tempt"), and those that document 02 tells of card lines, as the rows of one
--- table, and what each row says.
+-- The cases of document 01 that are marked P ("Swaps that tempt"), P8 as document 02 has it, and those that document 02 tells of card
+-- lines, as the rows of one table, and what each row says.
 use mathlib.Core.Path.{_≡_}
 use mathlib.Core.Bool.{true, false}
 use mathlib.Core.List.{List, [], _∷_, _++_, map}
@@ -118,7 +118,7 @@ table =
     judged swap6 (proofRecord 2 1 5 2 1 ++ proofRecord 3 2 6 3 2 ++ proofRecord 0 3 4 3 0) 21 0 ∷
     -- P7: with a second 3 D 2
     fair (swap6 ++ (giving 3 D 2 ∷ [])) ∷
-    -- P8, as document 02 has it: fair, and settled although card 2 holds no D; yet 22 while card 3 holds no D either
+    -- P8: fair, and settled although card 2 holds no D; yet 22 while card 3 holds no D either
     fair swap8 ∷
     replied (issues8 ▸ issue 3 D 1) settle8 (ok done) ∷
     replied issues8 settle8 (refused 22 0) ∷

@@ -116,13 +116,13 @@ Completeness =
 abbrev pub FairnessDecided : Type 0
 FairnessDecided = (text : List ℕ) (X : Exchange) → Among (openedBook text) X → T (isFair (openedBook text) X) ↔ Fair (openedBook text) X
 
--- ---- Covered
+-- ---- Covered, and the order of the transfers
 
 -- question 22's test of an exchange's transfers tells whether it is covered at every card and kind
 abbrev pub CoveredTested : Type 0
 CoveredTested = (s : State) (X : Exchange) → T (isCovered s X) ↔ Covered s X
 
--- the order of the transfers plays no part: of two exchanges of the same transfers, one is fair or covered if the other is, and both
+-- the order of the transfers does not matter: of two exchanges of the same transfers, one is fair, or covered, if the other is, and both
 -- leave the same holdings
 pub record OrderAside : Type 0 where
   pub fair : (b : Book) (X Y : Exchange) → X ~ Y → Fair b X → Fair b Y

@@ -1,5 +1,5 @@
-// Runs the calls of document 01's cases that are not marked P, and of some that are, and prints what each answers; the file stdout beside
-// src/ is what it must print.
+// Runs the calls of document 01's cases that are not marked P, of some that are, and of the requests', and prints what each answers; the
+// file stdout beside src/ is what it must print.
 mod free;
 mod issuing;
 mod large;
@@ -23,5 +23,6 @@ fn main() {
     passing::orders();
     passing::amounts();
     passing::rings();
+    passing::limits();
     large::settlements();
 }

@@ -64,3 +64,32 @@ pub(crate) fn rings() {
         &[1, 1, 2, 2, 1, 3, 3, 1, 1, 1, 1, 2],
     );
 }
+
+// An engine that no calls make: card 1 holds one A and card 2 so many.
+fn holding(count: u32) -> Engine {
+    let e = open();
+    let mut holdings = e.holdings;
+    holdings[0] = 1;
+    holdings[16] = count;
+    Engine { holdings, ..e }
+}
+
+pub(crate) fn limits() {
+    let most = 1_000_000_000;
+    settle(
+        b"receipt of a card at the limit, passed on",
+        holding(most),
+        &[1, 1, 2, 2, 1, 3],
+    );
+    settle(b"receipt of a card at the limit", holding(most), &[1, 1, 2]);
+    settle(
+        b"receipt beyond 32 bits, passed on",
+        holding(u32::MAX),
+        &[1, 1, 2, 2, 1, 3],
+    );
+    settle(
+        b"beyond 32 bits, and not covered",
+        holding(u32::MAX),
+        &[3, 1, 2],
+    );
+}

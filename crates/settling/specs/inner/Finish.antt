@@ -16,10 +16,10 @@ use Rattle.accounts.specs.Answered.{Declares}
 use Rattle.settling.specs.inner.Moves.{Proper}
 
 -- what questions 12 to 21 have shown of an exchange of n transfers
-pub record Judged (cards : ℕ) (e : List ℕ) (n : ℕ) : Type 0 where
+pub record Judged (declared : ℕ) (e : List ℕ) (n : ℕ) : Type 0 where
   pub proper : Proper e n
   -- an undeclared card receives nothing
-  pub undeclared : (c k : ℕ) → min cards cardLimit < c → receives c k (exchangeOf e) ≡ 0
+  pub undeclared : (c k : ℕ) → min declared cardLimit < c → receives c k (exchangeOf e) ≡ 0
 
 -- the number of the first question that is answered no, or 0; then the exchange is moved, and otherwise nothing is
 pub record Finished (declared : ℕ) (h e : List ℕ) (refusal : ℕ) (h′ : List ℕ) : Type 0 where

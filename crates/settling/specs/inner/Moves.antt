@@ -2,7 +2,7 @@
 use mathlib.Core.Path.{_≡_}
 use mathlib.Core.Bool.{Bool, true, false}
 use mathlib.Core.List.{List}
-use Prim.Native.Nat.{ℕ, _+_, _*_, _≤_, _<_, min}
+use Prim.Native.Nat.{ℕ, _+_, _*_, _≤_, _<_, min, max}
 use lib.Dec.{leb}
 use lib.ListN.{length, getD}
 use Rattle.model.specs.Limits.{kindCount, sumLimit, transferSize, holdingCount, numberMost}
@@ -19,15 +19,14 @@ pub record Proper (e : List ℕ) (n : ℕ) : Type 0 where
   pub givers : (i : ℕ) → i < n → Ranged (transferAt e i .giver) (transferAt e i .kind)
   pub receivers : (i : ℕ) → i < n → Ranged (transferAt e i .receiver) (transferAt e i .kind)
 
--- all that the moves need: 512 numbers of 32 bits, and cards and kinds that there are
+-- all that the moves need: 512 numbers, and cards and kinds that there are
 pub record Movable (h e : List ℕ) (n : ℕ) : Type 0 where
   pub proper : Proper e n
   pub long : length h ≡ holdingCount
-  pub fits : (c k : ℕ) → stateFrom h .held c k ≤ numberMost
 
--- n more, up to the largest number
+-- n more, up to the largest number, and never less than before
 abbrev pub added : ℕ → ℕ → ℕ
-added held n = min (held + n) numberMost
+added held n = max held (min (held + n) numberMost)
 
 -- the holdings h′ are h and what e brings
 pub record ReceiptsAdded (h e h′ : List ℕ) : Type 0 where

@@ -83,7 +83,7 @@ impl Part {
         Part::OtherKind,
     ];
 
-    pub const fn name(self) -> &'static str {
+    pub fn name(self) -> &'static str {
         match self {
             Part::PassedOn => "passed on",
             Part::Round => "round",
@@ -94,10 +94,18 @@ impl Part {
     }
 
     /// The answer to an exchange in which they have this part.
-    pub const fn answer(self) -> u8 {
+    pub fn answer(self) -> u8 {
         match self {
             Part::PassedOn | Part::Round => 0,
             Part::Twice | Part::OneShort | Part::OtherKind => 22,
+        }
+    }
+
+    /// The same as the programs print it.
+    pub fn word(self) -> &'static str {
+        match self.answer() {
+            0 => "0",
+            _ => "22",
         }
     }
 

@@ -13,9 +13,8 @@ const HYPHENS: &str = "hyphens";
 const NONE: &str = "none";
 
 /// Each command's letter, the first words of its answers, and the programs that must have given
-/// all of them in a run; those to `S` again where receipts have a part in them. No program may give
-/// any other; 23 cannot happen, nor can 6 and 7 to a line with a hyphen, which is a card's or has
-/// no form.
+/// all of them in a run. No program may give any other; 23 cannot happen, nor can 6 and 7 to a line
+/// with a hyphen, which is a card's or has no form.
 const ANSWERS: &[(&str, &str, &[Dialect])] = &[
     (BOOK, "book 1 2 3 4 5 6 7 bad", &Dialect::ALL),
     (HYPHENS, "book 1 2 3 4 5", &Dialect::ALL),
@@ -23,11 +22,6 @@ const ANSWERS: &[(&str, &str, &[Dialect])] = &[
     ("D", "0 8 9 11", &Dialect::ALL),
     ("H", "= 8 9", &Dialect::ALL),
     ("S", "0 12 13 14 15 16 17 18 19 20 21 22", &Dialect::ALL),
-    (Part::PassedOn.name(), "0", &Dialect::ALL),
-    (Part::Round.name(), "0", &Dialect::ALL),
-    (Part::Twice.name(), "22", &Dialect::ALL),
-    (Part::OneShort.name(), "22", &Dialect::ALL),
-    (Part::OtherKind.name(), "22", &Dialect::ALL),
     (NONE, "bad", &Dialect::ALL),
 ];
 
@@ -131,9 +125,11 @@ pub fn table(tallies: &[Tally]) -> String {
     table
 }
 
-/// Each answer of the rows by itself.
+/// Each answer of the rows by itself, and those to `S` again in which receipts have a part.
 fn answers() -> impl Iterator<Item = (&'static str, &'static str, &'static [Dialect])> {
-    ANSWERS.iter().flat_map(|&(command, words, dialects)| {
+    let rows = ANSWERS.iter().flat_map(|&(command, words, dialects)| {
         words.split(' ').map(move |word| (command, word, dialects))
-    })
+    });
+    let parts = Part::ALL.map(|part| (part.name(), part.word(), &Dialect::ALL[..]));
+    rows.chain(parts)
 }
