@@ -18,7 +18,7 @@ use Rattle.model.specs.Holdings.{State, receives, sumTo, total}
 use Rattle.model.specs.Calls.{Call, issue, redeem, query, settle, accountQuestions, replyTo, amount, issues, redeems, receivedIn, givenIn, changed, after}
 use Rattle.model.proofs.Tests.{eq-T, eqb-same, within→, zero-or-more}
 use Rattle.model.proofs.Questions.{inOrder-ok}
-use Rattle.model.proofs.Sums.{sum-add, sum-same, sum-zero, sum-point, and-scale, proper-receiver, proper-kind, with-side}
+use Rattle.model.proofs.Sums.{sum-add, sum-same, sum-point, and-scale, proper-receiver, proper-kind, with-side}
 use Rattle.model.proofs.Settling.{settled-ok, conserved}
 
 -- ---- a call that is not refused takes no more than what is held and what it brings
@@ -82,22 +82,6 @@ changed-is s (settle e p) d j = omega arith
 
 -- ---- the sums
 
--- what is taken and what is left are what was there and what came
-balance : (s : State) (call : Call) → Suffices s call → (k : ℕ)
-    → total (changed s call) k + (sumTo (λ c. redeems call c k) cardLimit + sumTo (λ c. givenIn call c k) cardLimit)
-    ≡ total s k + (sumTo (λ c. issues call c k) cardLimit + sumTo (λ c. receivedIn call c k) cardLimit)
-balance s call h k = go cardLimit
-  where
-    go : (n : ℕ) → sumTo (λ c. changed s call .held c k) n + (sumTo (λ c. redeems call c k) n + sumTo (λ c. givenIn call c k) n)
-        ≡ sumTo (λ c. s .held c k) n + (sumTo (λ c. issues call c k) n + sumTo (λ c. receivedIn call c k) n)
-    go n =
-        let l = sum-add (λ c. redeems call c k + givenIn call c k) (λ c. redeems call c k) (λ c. givenIn call c k) n (λ c. refl) in
-        let r = sum-add (λ c. issues call c k + receivedIn call c k) (λ c. issues call c k) (λ c. receivedIn call c k) n (λ c. refl) in
-        let x = sum-add (λ c. s .held c k + (issues call c k + receivedIn call c k)) (λ c. s .held c k) (λ c. issues call c k + receivedIn call c k) n (λ c. refl) in
-        let y = sum-add (λ c. s .held c k + (issues call c k + receivedIn call c k)) (λ c. changed s call .held c k) (λ c. redeems call c k + givenIn call c k) n
-        (λ c. omega (arith, h c k, changed-is s call c k)) in
-        omega (arith, l, r, x, y)
-
 pub after-ok : (b : Book) (s : State) (call : Call) (t : Told) → replyTo b s call ≡ ok t → after b s call ≡ changed s call
 unfolding after
 after-ok b s call t h = rw h
@@ -118,13 +102,15 @@ module _ (b : Book) (few : length (b .cards) ≤ cardLimit) where
   unfolding replyTo
   issuing-adds s c j n k t h =
       let q = inOrder-ok (accountQuestions b c j ++ ((10 unless leb (total s j + n) sumLimit) ∷ [])) 0 (ok done) t h in
-      omega (arith, balance s (issue c j n) (suffices b s (issue c j n) t h) k, sum-zero cardLimit, amount-sum c j n k (q .0 .0))
+      omega (arith, sum-add (λ d. s .held d k + amount c j n d k) (λ d. s .held d k) (λ d. amount c j n d k) cardLimit (λ d. refl), amount-sum c j n k (q .0 .0))
 
   pub redeeming-takes : (s : State) (c j n k : ℕ) (t : Told) → replyTo b s (redeem c j n) ≡ ok t → total (changed s (redeem c j n)) k + amount c j n c k ≡ total s k
   unfolding replyTo
   redeeming-takes s c j n k t h =
       let q = inOrder-ok (accountQuestions b c j ++ ((11 unless leb n (s .held c j)) ∷ [])) 0 (ok done) t h in
-      omega (arith, balance s (redeem c j n) (suffices b s (redeem c j n) t h) k, sum-zero cardLimit, amount-sum c j n k (q .0 .0))
+      let held : (d : ℕ) → s .held d k ≡ (s .held d k - amount c j n d k) + amount c j n d k
+      = λ d. omega (arith, amount-le s c j n d k (leb→le n (s .held c j) (q .0 .1 .1 .0))) in
+      omega (arith, sum-add (λ d. s .held d k) (λ d. s .held d k - amount c j n d k) (λ d. amount c j n d k) cardLimit held, amount-sum c j n k (q .0 .0))
 
   -- ---- no kind's sum ever passes the limit
 
@@ -142,5 +128,5 @@ module _ (b : Book) (few : length (b .cards) ≤ cardLimit) where
   pub limit-kept : (s : State) → ((k : ℕ) → total s k ≤ sumLimit) → (call : Call) (t : Told) → replyTo b s call ≡ ok t → (k : ℕ) → total (changed s call) k ≤ sumLimit
   limit-kept s l (issue c j n) t h k = omega (arith, issuing-adds s c j n k t h, issue-limit s c j n k t h (l k))
   limit-kept s l (redeem c j n) t h k = omega (arith, redeeming-takes s c j n k t h, l k)
-  limit-kept s l (query c j) t h k = omega (arith, balance s (query c j) (suffices b s (query c j) t h) k, sum-zero cardLimit, l k)
+  limit-kept s l (query c j) t h k = l k
   limit-kept s l (settle e p) t h k = omega (arith, settling-keeps s e p k t h, l k)

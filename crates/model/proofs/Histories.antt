@@ -19,7 +19,7 @@ use Rattle.model.proofs.Completeness.{Shaped}
 use Rattle.model.proofs.Conservation.{Suffices, suffices, changed-is, limit-kept}
 
 -- no more was taken than had come
-abbrev pub Natural : List Call → Type 0
+abbrev Natural : List Call → Type 0
 Natural calls = (c k : ℕ) → redeemed calls c k + given calls c k ≤ issued calls c k + received calls c k
 
 -- a call more, for which the state suffices
@@ -37,15 +37,15 @@ state-more calls call n h = (
 module _ (b : Book) where
   -- a call right after the list, by whether it is refused
   module _ (h : History) (call : Call) where
-    pub reply-now : replyTo b (stateAfter b h) call ≡ replyAfter b h call
+    reply-now : replyTo b (stateAfter b h) call ≡ replyAfter b h call
     unfolding replyAfter
     reply-now = refl
 
-    pub refused-adds : (n i : ℕ) → replyAfter b h call ≡ refused n i → notRefused b (h ▸ call) ≡ notRefused b h
+    refused-adds : (n i : ℕ) → replyAfter b h call ≡ refused n i → notRefused b (h ▸ call) ≡ notRefused b h
     unfolding notRefused replyAfter stateAfter
     refused-adds n i e = rw e
 
-    pub ok-adds : (t : Told) → replyAfter b h call ≡ ok t → notRefused b (h ▸ call) ≡ call ∷ notRefused b h
+    ok-adds : (t : Told) → replyAfter b h call ≡ ok t → notRefused b (h ▸ call) ≡ call ∷ notRefused b h
     unfolding notRefused replyAfter stateAfter
     ok-adds t e = rw e
 

@@ -1,19 +1,16 @@
 -- Exchanges of the same transfers, in whatever order: what a card gives and receives of a kind is the same in both.
 use mathlib.Core.Path.{_≡_, sym, _∙_}
-use mathlib.Core.Bool.{_&&_}
 use Prim.Native.Nat.{ℕ}
 use native.Mathlib.Omega.{arith}
-use lib.Dec.{eqb}
-use Rattle.model.specs.Lists.{oneIf}
 use Rattle.model.specs.Book.{Book}
 use Rattle.model.specs.Transfers.{Transfer, Exchange, _~_}
 use Rattle.model.specs.Fairness.{Accepts, nothing, approved}
-use Rattle.model.specs.Holdings.{along}
+use Rattle.model.specs.Holdings.{onSide, along}
 use Rattle.model.specs.Theorems.{OrderAside}
 use Rattle.model.proofs.Permutations.{sum-same-transfers}
 
 along-same : (side : Transfer → ℕ) (c k : ℕ) (X Y : Exchange) → X ~ Y → along side c k X ≡ along side c k Y
-along-same side c k X Y h = sum-same-transfers (λ t. oneIf (eqb (side t) c && eqb (t .kind) k)) X Y h
+along-same side c k X Y h = sum-same-transfers (onSide side c k) X Y h
 
 accepts-same : (b : Book) (c : ℕ) {W X Y : Exchange} → X ~ Y → Accepts b c W X → Accepts b c W Y
 accepts-same b c h (nothing none e) = nothing (λ t g. sym (h t) ∙ none t g) e

@@ -103,7 +103,7 @@ module _ (b : Book) (few : length (b .cards) ≤ cardLimit) (s : State) (X : Exc
       let q = sum-add (λ c. s .held c k + receives c k X) (λ c. settled s X c k) (λ c. gives c k X) cardLimit (λ c. sym (both-sides c)) in
       omega (arith, p, q, given-is-received b cardLimit k X few among)
 
-  pub ends-limited : ((k : ℕ) → total s k ≤ sumLimit) → T (endsLimited b s X)
+  ends-limited : ((k : ℕ) → total s k ≤ sumLimit) → T (endsLimited b s X)
   ends-limited limit = →ends b s X (λ c k i j u w. omega (arith, sum-part (λ d. settled s X d k) cardLimit c i (omega arith), conserved k, limit k))
 
 -- ---- a fair covered exchange settles

@@ -1,6 +1,6 @@
 // Proofs of exchanges by rules that ask nothing.
 
-// Record i claims transfer i by the rule of its giver's number, with its receiver for a. Of the first 32 transfers.
+// A record for each of the first 32 transfers: by the rule of its giver's number, with its receiver for a.
 pub(crate) fn proof(exchange: &[u8]) -> [u8; 384] {
     let n = limits::least(exchange.len() / 3, 32);
     let mut p = [0; 384];

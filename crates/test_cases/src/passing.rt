@@ -1,4 +1,4 @@
-// Passing on what comes in: question 22 of exchanges by rules that ask nothing.
+// Passing on what comes in: questions 22 and 23 of exchanges by rules that ask nothing.
 use crate::free;
 use crate::tell;
 use engine::Engine;

@@ -149,8 +149,8 @@ impl Session {
                 .holding(number(card)?, number(kind)?)
                 .map(|held| print_held(held, out)),
             (_, [b"S", exchange, proof]) => {
-                let (exchange, bytes) = hexadecimal(exchange, bytes)?;
-                let (proof, _) = hexadecimal(proof, bytes)?;
+                let (exchange, bytes) = from_hexadecimal(exchange, bytes)?;
+                let (proof, _) = from_hexadecimal(proof, bytes)?;
                 engine.settle(exchange, proof).map(|()| print_done(out))
             }
             _ => return None,
@@ -198,7 +198,7 @@ fn digit(byte: u8) -> Option<u64> {
 }
 
 /// Decodes a word into the front of the room; the bytes and the room left are answered.
-pub fn hexadecimal<'b>(word: &[u8], room: &'b mut [u8]) -> Option<(&'b [u8], &'b mut [u8])> {
+pub fn from_hexadecimal<'b>(word: &[u8], room: &'b mut [u8]) -> Option<(&'b [u8], &'b mut [u8])> {
     if word == b"-" {
         return Some((&[], room));
     }

@@ -1,6 +1,6 @@
 //! The till host's one call: everything is in its arguments, nothing is kept.
 
-use crate::book::{Book, KINDS};
+use crate::book::{Book, Refusal, KINDS};
 use crate::engine::{settle, Holdings, MAX_SUM};
 
 /// Answers 0 or a refusal number, and rewrites the holdings only on 0.
@@ -15,10 +15,12 @@ pub fn call(text: &[u8], holdings: &mut [u32], exchange: &[u8], proof: &[u8]) ->
     if !in_order(&book, holdings) {
         return 24;
     }
-    match settle(&book, holdings, exchange, proof) {
-        Ok(()) => 0,
-        Err(refusal) => refusal.number,
-    }
+    number(settle(&book, holdings, exchange, proof))
+}
+
+/// 0, or the refusal's number.
+pub fn number<T>(answer: Result<T, Refusal>) -> u8 {
+    answer.map_or_else(|refusal| refusal.number, |_| 0)
 }
 
 /// Whether undeclared cards hold nothing and no kind passes the most that it may sum to.

@@ -71,10 +71,7 @@ fn till_answers_as_the_engine_does() {
         let mut holdings = *engine.holdings();
         let answer = till::call(&text, &mut holdings, &exchange, &proof);
         let expected = engine.settle(&exchange, &proof);
-        assert_eq!(
-            answer,
-            expected.map_or_else(|refusal| refusal.number, |()| 0)
-        );
+        assert_eq!(answer, till::number(expected));
         assert_eq!(holdings, *engine.holdings());
         settled += u32::from(answer == 0);
     }
@@ -103,8 +100,7 @@ fn receipts_have_each_part_in_generated_swaps() {
         };
         let Settlement { exchange, proof } = swap.settlement(random);
         let answer = engine.settle(&exchange, &proof);
-        let number = answer.map_or_else(|refusal| refusal.number, |()| 0);
-        assert_eq!(number, part.answer(), "{exchange:?}");
+        assert_eq!(till::number(answer), part.answer(), "{exchange:?}");
         counts[part as usize] += 1;
     }
     assert!(counts.iter().all(|&count| count > 30), "{counts:?}");
@@ -169,11 +165,10 @@ fn tables_have_lines_at_each_limit() {
 fn tables_have_hyphens_in_each_answer() {
     let transcripts = Transcript::every(&mut Random::new(12, 0));
     let texts = transcripts.iter().filter_map(|case| case.book.text());
-    let answers = texts.filter(|text| generate::hyphened(text)).map(|text| {
-        let answer = Book::read(text);
-        answer.map_or_else(|refusal| refusal.number, |_| 0)
-    });
-    let answers: BTreeSet<_> = answers.collect();
+    let hyphened = texts.filter(|text| generate::hyphened(text));
+    let answers: BTreeSet<_> = hyphened
+        .map(|text| till::number(Book::read(text)))
+        .collect();
     assert_eq!(answers, BTreeSet::from([0, 1, 2, 3, 4, 5]));
 }
 
@@ -189,7 +184,7 @@ fn without_its_hyphens_a_text_is_answered_the_same() {
             _ => generate::damaged(random),
         };
         let answer = |text: &[u8]| Book::read(text).map(|book| book.cards);
-        let number = answer(&text).map_or_else(|refusal| refusal.number, |_| 0);
+        let number = till::number(answer(&text));
         if generate::hyphened(&text) {
             counts[usize::from(number)] += 1;
         }

@@ -13,22 +13,22 @@ const PAID_TWICE: &str = "3 D 2, 1 B 3, 2 B 3";
 const PAID_APART: &str = "3 D 2, 1 B 3, 2 B 3, 3 D 2";
 const CROSSED: &str = "1 A 2, 2 D 1, 2 B 3, 3 D 2";
 
-/// Bram, card 2, gives a bread voucher (B) for an egg token (E), and an egg token for a stamp (P);
-/// Cora, card 3, gives an egg token for a voucher, and Ana, card 1, a stamp for an egg token. All
-/// three give an A to anybody, and Ana a C.
+/// Ana, card 1, gives a stamp (A) for an egg token (C); Bram, card 2, an egg token for a stamp, and a
+/// bread voucher (B) for an egg token; Cora, card 3, an egg token for a bread voucher. All three give
+/// a D to anybody, and Ana an E.
 const MARKET: &str = "C 700056000016
 C 700012000019
 C 700012000027
-R 1 P a < a E *
-R 2 B a < a E *
-R 2 E a < a P *
-R 3 E a < a B *
-R 1 A a
-R 2 A a
-R 3 A a
-R 1 C a
+R 1 A a < a C *
+R 2 C a < a A *
+R 2 B a < a C *
+R 3 C a < a B *
+R 1 D a
+R 2 D a
+R 3 D a
+R 1 E a
 ";
-const SUPPLY: &str = "3 E 2, 2 B 3, 2 E 1, 1 P 2";
+const SUPPLY: &str = "3 C 2, 2 B 3, 2 C 1, 1 A 2";
 
 /// Reads `1 A 2, 2 B 3` into transfers.
 fn transfers(text: &str) -> Vec<Transfer> {
@@ -70,7 +70,8 @@ fn proof(text: &str, exchange: &str) -> Option<Vec<u8>> {
     let book = Book::read(text.as_bytes()).expect("the book opens");
     let exchange = transfers(exchange);
     let proof = search::proof(&book, &exchange);
-    assert_eq!(proof.is_some(), Decider::new(&book).fair(&exchange));
+    let fair = Decider::new(&book).fair(&exchange);
+    assert_eq!(proof.is_some(), fair, "{exchange:?}");
     proof
 }
 
@@ -109,7 +110,7 @@ fn settle_holding(text: &str, held: &str, exchange: &str) -> Result<(), Refusal>
     let answer = settle(&mut engine, exchange, &proof);
     let transfers = transfers(exchange);
     let number = till::call(text.as_bytes(), &mut handed_in, &transfers.concat(), &proof);
-    assert_eq!(number, answer.map_or_else(|refusal| refusal.number, |()| 0));
+    assert_eq!(number, till::number(answer));
     if answer.is_ok() {
         for &[_, kind, receiver] in &transfers {
             expected[slot(receiver, kind)] += 1;
@@ -265,24 +266,24 @@ fn who_pays_needs_a_rule_too() {
 fn receipts_count_for_their_card_and_kind() {
     let short = refused(22, 0);
     for (held, exchange, answer) in [
-        ("1 P, 2 B, 3 E", SUPPLY, Ok(())),
-        ("1 P, 2 B", SUPPLY, short),
+        ("1 A, 2 B, 3 C", SUPPLY, Ok(())),
+        ("1 A, 2 B", SUPPLY, short),
         // The gift is listed after the receipt, and before it.
-        ("1 A", "1 A 2, 2 A 3", Ok(())),
-        ("1 A", "2 A 3, 1 A 2", Ok(())),
+        ("1 D", "1 D 2, 2 D 3", Ok(())),
+        ("1 D", "2 D 3, 1 D 2", Ok(())),
         // One receipt is passed on twice.
-        ("1 A", "1 A 2, 2 A 3, 2 A 1", short),
-        ("1 A", "2 A 3, 1 A 2, 2 A 3", short),
-        ("1 A, 2 A", "2 A 3, 1 A 2, 2 A 3", Ok(())),
+        ("1 D", "1 D 2, 2 D 3, 2 D 1", short),
+        ("1 D", "2 D 3, 1 D 2, 2 D 3", short),
+        ("1 D, 2 D", "2 D 3, 1 D 2, 2 D 3", Ok(())),
         // A token that nobody holds goes round a ring, and nowhere else.
-        ("", "1 A 2, 2 A 3, 3 A 1", Ok(())),
-        ("", "3 A 1, 2 A 3, 1 A 2, 2 A 1", short),
-        ("", "1 A 2, 2 A 3", short),
+        ("", "1 D 2, 2 D 3, 3 D 1", Ok(())),
+        ("", "3 D 1, 2 D 3, 1 D 2, 2 D 1", short),
+        ("", "1 D 2, 2 D 3", short),
         // Receipts of another kind or another card do not help.
-        ("1 C", "1 C 2, 2 A 3", short),
-        ("1 A", "1 A 3, 2 A 3", short),
-        ("1 A", "1 A 3, 2 A 1", short),
-        ("3 A", "2 A 3", short),
+        ("1 E", "1 E 2, 2 D 3", short),
+        ("1 D", "1 D 3, 2 D 3", short),
+        ("1 D", "1 D 3, 2 D 1", short),
+        ("3 D", "2 D 3", short),
     ] {
         let given = settle_holding(MARKET, held, exchange);
         assert_eq!(given, answer, "{held}: {exchange}");
@@ -293,8 +294,8 @@ fn receipts_count_for_their_card_and_kind() {
 fn holding_plus_received_is_at_least_given() {
     for (held, received) in (0..4).flat_map(|held| (0..4).map(move |received| (held, received))) {
         for given in 1..8 {
-            let tokens = [vec!["2 A"; held], vec!["1 A"; received]].concat();
-            let mut transfers = [vec!["1 A 2"; received], vec!["2 A 3"; given]].concat();
+            let tokens = [vec!["2 D"; held], vec!["1 D"; received]].concat();
+            let mut transfers = [vec!["1 D 2"; received], vec!["2 D 3"; given]].concat();
             let expected = match held + received >= given {
                 true => Ok(()),
                 false => refused(22, 0),
@@ -313,14 +314,14 @@ fn holding_plus_received_is_at_least_given() {
 fn who_lacks_a_token_is_asked_before_who_has_too_many() {
     let book = Book::read(MARKET.as_bytes()).expect("the book opens");
     for (held, exchange, answer) in [
-        (0, "1 A 2", refused(22, 0)),
-        (1, "1 A 2", refused(23, 0)),
-        (1, "1 A 2, 2 A 3", Ok(())),
-        (1, "2 A 3, 1 A 2", Ok(())),
+        (0, "1 D 2", refused(22, 0)),
+        (1, "1 D 2", refused(23, 0)),
+        (1, "1 D 2, 2 D 3", Ok(())),
+        (1, "2 D 3, 1 D 2", Ok(())),
     ] {
         let mut holdings = [0; HOLDINGS];
-        holdings[slot(1, 1)] = held;
-        holdings[slot(2, 1)] = MAX_SUM;
+        holdings[slot(1, 4)] = held;
+        holdings[slot(2, 4)] = MAX_SUM;
         let before = holdings;
         let proof = proof(MARKET, exchange).expect(exchange);
         let transfers = transfers(exchange).concat();

@@ -24,7 +24,7 @@ pub record Movable (h e : List ℕ) (n : ℕ) : Type 0 where
   pub proper : Proper e n
   pub long : length h ≡ holdingCount
 
--- n more, up to the largest number, and never less than before
+-- n more, up to the largest number; a larger one, which no array of the program has, stays
 abbrev pub added : ℕ → ℕ → ℕ
 added held n = max held (min (held + n) numberMost)
 
@@ -38,7 +38,7 @@ pub record GiftsTaken (h e h′ : List ℕ) : Type 0 where
   pub long : length h′ ≡ holdingCount
   pub less : (c k : ℕ) → stateFrom h′ .held c k + gives c k (exchangeOf e) ≡ stateFrom h .held c k
 
--- some card gives more of a kind than there is
+-- some card gives more of a kind than it has in h
 pub record Lacks (h e : List ℕ) : Type 0 where
   pub card : ℕ
   pub kind : ℕ

@@ -10,7 +10,7 @@ pub struct Giver {
     pub card: u8,
     pub kind: u8,
     pub given: u32,
-    pub received: u32,
+    received: u32,
 }
 
 impl Giver {

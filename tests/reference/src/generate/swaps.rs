@@ -37,7 +37,7 @@ impl Swap {
 
     /// Starts from a gift and adds what is asked for it, and what is asked for that, until
     /// nothing is left to ask. Most books allow it for some gift.
-    pub fn find(book: &Book, random: &mut Random) -> Option<Swap> {
+    fn find(book: &Book, random: &mut Random) -> Option<Swap> {
         let rules: Vec<_> = book.rules.iter().collect();
         Swap::find_by(&rules, book, random)
     }

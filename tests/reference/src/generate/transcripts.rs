@@ -246,7 +246,7 @@ impl Script {
         }
     }
 
-    /// Issues what the swap's givers lack, settles, and asks what came of it.
+    /// Covers the swap, settles, and asks what came of it.
     fn settle_and_query(&mut self, swap: &Swap, settlement: &Settlement, random: &mut Random) {
         self.cover(swap, random);
         self.settle(settlement);
@@ -256,7 +256,7 @@ impl Script {
         }
     }
 
-    /// Each giver holds all that it gives, or just what receipts do not bring.
+    /// Each giver holds at least all that it gives, or each just what receipts do not bring.
     fn cover(&mut self, swap: &Swap, random: &mut Random) {
         let all = random.one_in(2);
         for giver in Giver::all(&swap.transfers) {
@@ -268,7 +268,8 @@ impl Script {
         }
     }
 
-    /// Each giver holds just what receipts do not bring, and one of them a token less.
+    /// Each giver holds just what receipts do not bring, and one of them, if any must hold some, a
+    /// token less.
     fn leave_one_short(&mut self, swap: &Swap, random: &mut Random) {
         let givers = Giver::all(&swap.transfers);
         for (giver, count) in givers.iter().zip(one_short(&givers, random)) {

@@ -1,13 +1,13 @@
 //! Which answers were met in a run, and how often.
 
 use crate::report::{first_word, lines};
-use reference::commands::{hexadecimal, Dialect, Session};
+use reference::commands::{from_hexadecimal, Dialect, Session};
 use reference::generate::{hyphened, Part, Transcript};
 use std::collections::BTreeMap;
 use std::fmt::Write;
 
-/// The rows of what has no letter: the book, the book again where hyphens have a part in its
-/// answer, and every line that is no command of the dialect.
+/// The rows of what has no letter, beside those of `Part`: the book, the book again where hyphens
+/// have a part in its answer, and every line that is no command of the dialect.
 const BOOK: &str = "book.txt";
 const HYPHENS: &str = "hyphens";
 const NONE: &str = "none";
@@ -103,7 +103,7 @@ impl Tally {
 fn part(holdings: &[u32], line: &[u8]) -> Option<Part> {
     let word = line.split(|&byte| byte == b' ').nth(1)?;
     let mut room = vec![0; word.len()];
-    let (exchange, _) = hexadecimal(word, &mut room)?;
+    let (exchange, _) = from_hexadecimal(word, &mut room)?;
     let (transfers, _) = exchange.as_chunks();
     Part::of(holdings, transfers)
 }
