@@ -108,9 +108,8 @@ module _ (b : Book) (few : length (b .cards) ≤ cardLimit) where
   unfolding replyTo
   redeeming-takes s c j n k t h =
       let q = inOrder-ok (accountQuestions b c j ++ ((11 unless leb n (s .held c j)) ∷ [])) 0 (ok done) t h in
-      let held : (d : ℕ) → s .held d k ≡ (s .held d k - amount c j n d k) + amount c j n d k
-      = λ d. omega (arith, amount-le s c j n d k (leb→le n (s .held c j) (q .0 .1 .1 .0))) in
-      omega (arith, sum-add (λ d. s .held d k) (λ d. s .held d k - amount c j n d k) (λ d. amount c j n d k) cardLimit held, amount-sum c j n k (q .0 .0))
+      let left = sum-add (λ d. s .held d k) (λ d. s .held d k - amount c j n d k) (λ d. amount c j n d k) cardLimit (λ d. omega (arith, suffices b s (redeem c j n) t h d k)) in
+      omega (arith, left, amount-sum c j n k (q .0 .0))
 
   -- ---- no kind's sum ever passes the limit
 
