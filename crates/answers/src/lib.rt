@@ -1,8 +1,9 @@
 // What opening and the calls answer, and the names of document 01's refusal numbers.
-ghost use Rattle.std.specs.Prelude.{◌≡◌};
-ghost use Rattle.answers.specs.View.{reply_of, refusal_number};
 
 #![tactic(auto)]
+
+ghost use Rattle.std.specs.Prelude.{◌≡◌};
+ghost use Rattle.answers.specs.View.{reply_of, refusal_number};
 
 // What opening a text answers: done, or refused with a number and the line, or 0.
 #[derive(Drop)]

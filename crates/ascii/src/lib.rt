@@ -1,9 +1,10 @@
 // Bytes of texts, tables and proof records: the byte at a place, a digit's value, the place of a byte.
+
+#![tactic(auto)]
+
 ghost use Rattle.std.specs.Prelude.{◌≡◌, ◌+◌, ◌≤◌, min, max, length, get_or, drop};
 ghost use Rattle.model.specs.Lists.{until};
 ghost use Rattle.model.specs.Reader.{digit_of};
-
-#![tactic(auto)]
 
 const NO_DIGIT: u8 = 10;
 

@@ -1,9 +1,10 @@
 // The numbers of document 01 that size the tables or that more than one crate needs, each at its smallest width, and a number held to
 // such a bound.
-ghost use Rattle.std.specs.Prelude.{◌≡◌, min};
-ghost use Rattle.model.specs.Lists.{within};
 
 #![tactic(auto)]
+
+ghost use Rattle.std.specs.Prelude.{◌≡◌, min};
+ghost use Rattle.model.specs.Lists.{within};
 
 // The most bytes of a rule text.
 pub const TEXT_LIMIT: u16 = 16_384;
