@@ -6,14 +6,14 @@ ghost use Rattle.std.specs.Prelude.{◌≡◌};
 ghost use Rattle.answers.specs.View.{reply_of, refusal_number};
 
 // What opening a text answers: done, or refused with a number and the line, or 0.
-#[derive(Drop)]
+#[derive(Clone, Copy)]
 pub enum Answer {
     Done,
     Refused(u8, u32),
 }
 
 // What a call answers: done, a holding that a query tells, or refused with a number and a place: a transfer or a record, from 1, or 0.
-#[derive(Drop)]
+#[derive(Clone, Copy)]
 pub enum Reply {
     Done,
     Holding(u32),

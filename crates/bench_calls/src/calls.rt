@@ -5,7 +5,7 @@ use answers::Reply;
 use engine::Engine;
 
 // The engine after the calls, and how many of them were not refused.
-#[derive(Drop)]
+#[derive(Clone, Copy)]
 pub(crate) struct Repeated {
     pub(crate) engine: Engine,
     pub(crate) count: u32,

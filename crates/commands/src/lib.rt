@@ -19,27 +19,27 @@ pub use replies::{put_bad, put_book, put_reply};
 pub const ANSWER_SIZE: usize = 32;
 
 // How many bytes a line may have without its LF, and whether every command is answered or document 01's alone.
-#[derive(Drop)]
+#[derive(Clone, Copy)]
 pub struct Dialect {
     pub longest: u32,
     pub full: bool,
 }
 
 // A word's place in a line: where its first byte is, and the place after its last.
-#[derive(Drop)]
+#[derive(Clone, Copy)]
 pub struct Place {
     pub from: usize,
     pub to: usize,
 }
 
 // A settlement's two words of hexadecimal; `unhex` gives their bytes.
-#[derive(Drop)]
+#[derive(Clone, Copy)]
 pub struct Words {
     pub exchange: Place,
     pub proof: Place,
 }
 
-#[derive(Drop)]
+#[derive(Clone, Copy)]
 pub enum Command {
     Issue(u32, u32, u32),
     Redeem(u32, u32, u32),

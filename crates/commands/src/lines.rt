@@ -12,13 +12,13 @@ use crate::{Command, Place, Words, hexadecimal, numbers};
 const BODY: usize = 2;
 
 // A number before a space, and the place after the space.
-#[derive(Drop)]
+#[derive(Clone, Copy)]
 enum Leading {
     Number(u32, usize),
     Missing,
 }
 
-#[derive(Drop)]
+#[derive(Clone, Copy)]
 enum Triple {
     Are(u32, u32, u32),
     Missing,

@@ -22,14 +22,14 @@ const BLOCK_SIZE: usize = 16384;
 const ANSWERS_SIZE: usize = BLOCK_SIZE * ANSWER_SIZE;
 
 // What reading a file gives: so many bytes of it, or that it cannot be read.
-#[derive(Drop)]
+#[derive(Clone, Copy)]
 enum Text {
     Read(usize),
     Missing,
 }
 
 // The session after a block, and whether all of the block was answered.
-#[derive(Drop)]
+#[derive(Clone, Copy)]
 struct AfterBlock {
     session: Session,
     whole: bool,

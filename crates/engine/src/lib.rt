@@ -13,20 +13,20 @@ use answers::{Answer, Reply};
 use rulebook::layout::{CardTable, RuleTable, card_count};
 
 // Card m's holding of kind k is at (m - 1) * 16 + k - 1; the tables are those that a text is read into.
-#[derive(Drop)]
+#[derive(Clone, Copy)]
 pub struct Engine {
     pub holdings: [u32; 512],
     pub cards: CardTable,
     pub rules: RuleTable,
 }
 
-#[derive(Drop)]
+#[derive(Clone, Copy)]
 pub struct Opened {
     pub answer: Answer,
     pub engine: Engine,
 }
 
-#[derive(Drop)]
+#[derive(Clone, Copy)]
 pub struct Called {
     pub reply: Reply,
     pub engine: Engine,

@@ -10,7 +10,7 @@ ghost use Rattle.forms.specs.inner.Words.{word_digits};
 use crate::{LEAST_DIGITS, MOST_DIGITS};
 
 // A card number: how many digits it has, and the first 19 of them, zeros after the last.
-#[derive(Drop)]
+#[derive(Clone, Copy)]
 pub struct CardNumber {
     pub count: usize,
     pub digits: [u8; 19],

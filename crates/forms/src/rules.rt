@@ -89,7 +89,7 @@ fn has_head(line: &[u8]) -> bool
 }
 
 // Whether a line is a rule line, where its prices begin and how many they are, and its conditions likewise.
-#[derive(Drop)]
+#[derive(Clone, Copy)]
 pub struct RuleForm {
     pub formed: bool,
     pub body: usize,

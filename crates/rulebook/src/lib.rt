@@ -21,14 +21,14 @@ use layout::{CARD_TABLE_SIZE, CardTable, RULE_TABLE_SIZE, RuleTable};
 const TEXT_LIMIT: usize = limits::TEXT_LIMIT as usize;
 
 // Cards with their groups, and rules, by value. Their layout is that of `layout`, their meaning that of specs/View.antt.
-#[derive(Drop)]
+#[derive(Clone, Copy)]
 pub struct Tables {
     pub cards: CardTable,
     pub rules: RuleTable,
 }
 
 // What a text gives: Done and its tables, or a refusal and the tables of the empty text.
-#[derive(Drop)]
+#[derive(Clone, Copy)]
 pub struct Reading {
     pub answer: Answer,
     pub tables: Tables,

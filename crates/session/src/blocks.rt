@@ -9,14 +9,14 @@ use commands::{ANSWER_SIZE, Dialect};
 use rulebook::layout::{CardTable, RuleTable};
 
 // Where the part of a block that has no LF begins, and the place after the answers to its lines.
-#[derive(Drop)]
+#[derive(Clone, Copy)]
 struct Lines {
     rest: usize,
     next: usize,
 }
 
 // How much of the last line is kept, and how many bytes were printed.
-#[derive(Drop)]
+#[derive(Clone, Copy)]
 pub(crate) struct Walked {
     pub size: usize,
     pub count: usize,

@@ -20,7 +20,7 @@ use engine::Engine;
 use rulebook::layout::{card_count, rule_count};
 
 // The dialect, the engine, and how much is kept of the line that has no LF yet.
-#[derive(Drop)]
+#[derive(Clone, Copy)]
 pub struct Session {
     pub dialect: Dialect,
     pub engine: Engine,
@@ -28,7 +28,7 @@ pub struct Session {
 }
 
 // A session, whether its text was opened, and how many bytes were printed.
-#[derive(Drop)]
+#[derive(Clone, Copy)]
 pub struct Begun {
     pub session: Session,
     pub opened: bool,
@@ -36,7 +36,7 @@ pub struct Begun {
 }
 
 // The session afterwards, how much of the block was taken, and how many bytes were printed.
-#[derive(Drop)]
+#[derive(Clone, Copy)]
 pub struct Fed {
     pub session: Session,
     pub taken: usize,

@@ -4,7 +4,7 @@
 ghost use Rattle.std.specs.Prelude.{◌≤◌};
 
 // A transfer, if it is there.
-#[derive(Drop)]
+#[derive(Clone, Copy)]
 struct Transfer {
     there: bool,
     giver: u8,
@@ -13,7 +13,7 @@ struct Transfer {
 }
 
 // What is left of an exchange once a transfer is taken from it, if it was found.
-#[derive(Drop)]
+#[derive(Clone, Copy)]
 struct Taken {
     found: bool,
     left: [u8; 9],
@@ -21,7 +21,7 @@ struct Taken {
 
 // What is left once an approval's head and price are claimed: of the exchange for the card itself, and of the exchange for the prices of all
 // cards together.
-#[derive(Drop)]
+#[derive(Clone, Copy)]
 struct Claimed {
     good: bool,
     own: [u8; 9],

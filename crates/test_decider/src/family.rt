@@ -6,7 +6,7 @@ use answers::Reply;
 use engine::Engine;
 
 // What the engine says of a proof whose records are chosen up to one of them.
-#[derive(Drop)]
+#[derive(Clone, Copy)]
 struct Tried {
     settled: bool,
     // the records so far are good
@@ -16,7 +16,7 @@ struct Tried {
 }
 
 // What one number of the family adds to the counts.
-#[derive(Drop)]
+#[derive(Clone, Copy)]
 struct Outcome {
     exchanges: u32,
     fair: u32,

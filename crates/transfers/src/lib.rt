@@ -15,7 +15,7 @@ const TRANSFER_SIZE: usize = limits::TRANSFER_SIZE as usize;
 const LIST_SIZE: usize = 32;
 
 // The giver gives the receiver one token of the kind.
-#[derive(Drop)]
+#[derive(Clone, Copy)]
 pub struct Transfer {
     pub giver: u8,
     pub kind: u8,
