@@ -7,26 +7,22 @@ use lib.Seq.{length-take-le}
 use Rattle.model.specs.Limits.{most_digits}
 use Rattle.forms.specs.Numbers.{is_number_in}
 use borrow.Author.Rules.{rules}
-use Rattle.forms.proofs.cards.is_card_number.Statement.{statement}
-use Rattle.forms.proofs.cards.is_card_number.Tie as tie
+use Rattle.forms.proofs.cards.is_card_number.Goals as goal
 
-returns : tie.Need-returns
+pub returns-then-number-gt-MOST_DIGITS : goal.returns-then-number-gt-MOST_DIGITS
 unfolding is_number_in
-returns c = search (rules, lt-leb)
+returns-then-number-gt-MOST_DIGITS c = search (rules, lt-leb)
 
-returns-2 : tie.Need-returns-2
+pub returns-then-number-lt-LEAST_DIGITS : goal.returns-then-number-lt-LEAST_DIGITS
 unfolding is_number_in
-returns-2 c =
-    let n = c.before.before.before.before.args.number in
+returns-then-number-lt-LEAST_DIGITS c =
+    let n = c.args.number in
     let l : length n.digits ≡ most_digits = search rules in
     rw (length-take-le n.count n.digits (omega arith)) (search (rules, le-leb, lt-leb))
 
-returns-3 : tie.Need-returns-3
+pub returns : goal.returns
 unfolding is_number_in
-returns-3 c =
-    let n = c.before.before.before.before.before.args.number in
+returns c =
+    let n = c.args.number in
     let l : length n.digits ≡ most_digits = search rules in
     rw (length-take-le n.count n.digits (omega arith)) (search (rules, le-leb, lt-leb))
-
-pub is-card-number-spec : {M : Type 1} → statement M
-is-card-number-spec = tie.close (tie.spec returns returns-2 (λ c κs. search rules) returns-3)

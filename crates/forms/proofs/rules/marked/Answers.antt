@@ -1,0 +1,8 @@
+-- The expression is the definition, over what `byte` gives.
+use Rattle.model.specs.Reader.{mark_at}
+use borrow.Author.Rules.{rules}
+use Rattle.forms.proofs.rules.marked.Goals as goal
+
+pub returns : goal.returns
+unfolding mark_at
+returns c = rw (c.byte-3.ensures, c.byte-2.ensures, c.byte.ensures)
