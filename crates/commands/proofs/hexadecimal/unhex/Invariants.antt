@@ -1,0 +1,17 @@
+-- The loop has put the bytes of the first n pairs, which end before i.
+use mathlib.Core.Path.{◌≡◌, ◌∙◌, ap₂}
+use mathlib.Core.List.{List}
+use Prim.Native.Nat.{ℕ, ◌+◌, ◌-◌, ◌≤◌}
+use native.Mathlib.Omega.{arith}
+use lib.ListN.{length, get_or, drop, length-set}
+use borrow.Author.Rules.{rules}
+use Rattle.commands.specs.Reader.{pair_of, pair_bytes}
+use Rattle.commands.proofs.Pairs.{pair_stops, pair_follows}
+use Rattle.commands.proofs.Buffers.{Filling, filling_none, filling_more, filled_all, filled_full}
+use Rattle.commands.proofs.hexadecimal.unhex.Given as goal
+
+abbrev pub invariant-loop-n : goal.invariant-loop-n
+invariant-loop-n l = (l.i ≤ length l.word) × (length l.out ≡ length l.initial.out) × Filling (pair_bytes l.word) l.initial.out l.out (pair_bytes (drop l.i l.word)) l.n
+
+abbrev pub decreases-loop-n : goal.decreases-loop-n
+decreases-loop-n l = length l.initial.out - l.n

@@ -1,0 +1,21 @@
+-- The length is written, then the digits, then the count.
+use mathlib.Core.Path.{◌≡◌}
+use native.Mathlib.Omega.{arith}
+use lib.ListN.{length, length-set}
+use Rattle.model.specs.Limits.{most_digits}
+use Rattle.rulebook.proofs.Written.{card-added}
+use borrow.Author.Rules.{rules}
+use Rattle.rulebook.proofs.layout.add_card.Goals as goal
+
+pub write-requires : goal.write-requires
+write-requires c =
+    let l : length c.args.number.digits ≡ most_digits = search rules in
+    simp length-set (omega (arith, c.card_count-m.ensures, c.requires))
+
+pub returns : goal.returns
+returns c =
+    let a = c.args in
+    let count = c.card_count-m.ensures in
+    let l : length a.number.digits ≡ most_digits = search rules in
+    card-added a.cards.now a.number.digits _ _ a.number.count (omega (arith, count)) (omega (arith, count, c.requires)) c.requires.0 l c.requires.2
+    c.write.ensures

@@ -1,0 +1,31 @@
+-- The loop has put the prices before i.
+use mathlib.Core.Path.{◌≡◌, refl}
+use native.Mathlib.Omega.{arith}
+use native.Mathlib.Numerals.{add-one}
+use lib.ListN.{length-set}
+use Rattle.rulebook.specs.inner.Rows.{price_cells}
+use borrow.Author.Rules.{rules}
+use Rattle.rulebook.proofs.rules.put_prices.Goals as goal
+
+pub loop-i-init : goal.loop-i-init
+unfolding price_cells
+loop-i-init c = (search rules, refl, search rules)
+
+pub put_price-requires : goal.put_price-requires
+put_price-requires c = (c.loop-i.invariant.2, search rules)
+
+pub loop-i-preserved : goal.loop-i-preserved
+unfolding price_cells
+loop-i-preserved c =
+    let h = c.loop-i in
+    let put = c.put_price.ensures in
+    (
+      search rules,
+      rw (add-one h.i, put, c.name.ensures, c.kind.ensures, c.variable.ensures, c.byte-in-loop-i-2.ensures, c.byte-in-loop-i.ensures, c.byte.ensures, h.invariant.1),
+      rw put (simp length-set h.invariant.2),
+    )
+
+pub returns : goal.returns
+returns c =
+    let all : c.loop-i.i ≡ c.args.n = omega arith in
+    rw all at c.loop-i.invariant.1
