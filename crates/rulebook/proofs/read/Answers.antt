@@ -8,7 +8,7 @@ pub returns-then-text-gt-TEXT_LIMIT : goal.returns-then-text-gt-TEXT_LIMIT
 returns-then-text-gt-TEXT_LIMIT c = rw c.refused.ensures (reads_refused (too_long _ c.if-text-gt-TEXT_LIMIT.true))
 
 pub returns-in-Done : goal.returns-in-Done
-returns-in-Done c = reads_done (sym (rw c.enum_told-1.given.1 at c.take_lines-answer.ensures))
+returns-in-Done c = reads_done (sym (rw c.in-Done.is at c.take_lines-answer.ensures))
 
 pub returns-in-Refused : goal.returns-in-Refused
-returns-in-Refused c = rw c.refused-in-Refused.ensures (reads_refused (sym (rw c.answer-1.given.1 at c.take_lines-answer.ensures)))
+returns-in-Refused c = rw c.refused-in-Refused.ensures (reads_refused (sym (rw c.in-Refused.is at c.take_lines-answer.ensures)))

@@ -34,7 +34,7 @@ long c =
 -- digit d of card i + 1 as the program reads it
 read : (c : After-digit_at) → c.digit_at.result ≡ digit_at c.args.cards.now (suc c.cards.i) c.loop-d.d
 read c =
-    let e : c.loop-d.i + 1 ≡ suc c.cards.i = omega (arith, c.loop-d.invariant.1) in
+    let e : c.cards.i + 1 ≡ suc c.cards.i = omega (arith, c.loop-d.invariant.1) in
     c.digit_at.ensures ∙ ap (λ (m : ℕ). digit_at c.args.cards.now m c.loop-d.d) e
 
 pub cards-preserved-then-d-n : goal.cards-preserved-then-d-n
@@ -70,7 +70,7 @@ same_digits c k l =
 -- the length of card i + 1 as the program reads it
 read_length : (c : After-card_length) → c.card_length.result ≡ card_length c.args.cards.now (suc c.cards.i)
 read_length c =
-    let e : c.loop-d.i + 1 ≡ suc c.cards.i = omega (arith, c.loop-d.invariant.1) in
+    let e : c.cards.i + 1 ≡ suc c.cards.i = omega (arith, c.loop-d.invariant.1) in
     c.card_length.ensures ∙ ap (card_length c.args.cards.now) e
 
 pub cards-preserved : goal.cards-preserved

@@ -66,12 +66,12 @@ is_known-requires c = count c
 
 pub returns-then-is_known : goal.returns-then-is_known
 returns-then-is_known c =
-    card-repeated (formed (goal.at.returns-then-is_known c).Else-number-eq0) (room (goal.at.returns-then-is_known c).Else-card_count-ge-CARD_LIMIT) (numbered (goal.at.returns-then-is_known c).Else-not-is_card_number) (rw (digits (goal.at.returns-then-is_known c).Else-not-is_card_number) at (sym c.is_Known.ensures ∙ c.if-is_known.true))
+    card-repeated (formed (goal.at.returns-then-is_known c).Else-number-eq0) (room (goal.at.returns-then-is_known c).Else-card_count-ge-CARD_LIMIT) (numbered (goal.at.returns-then-is_known c).Else-not-is_card_number) (rw (digits (goal.at.returns-then-is_known c).Else-not-is_card_number) at (sym c.is_known.ensures ∙ c.if-is_known.true))
 
 pub add_card-requires : goal.add_card-requires
 add_card-requires c = (search rules, room (goal.at.add_card-requires c).Else-card_count-ge-CARD_LIMIT, count (goal.at.add_card-requires c).Else-not-is_card_number)
 
 pub returns : goal.returns
 returns c =
-    card-taken (formed (goal.at.returns c).Else-number-eq0) (room (goal.at.returns c).Else-card_count-ge-CARD_LIMIT) (numbered (goal.at.returns c).Else-not-is_card_number) (rw (digits (goal.at.returns c).Else-not-is_card_number) at (sym c.is_Known.ensures ∙ c.if-is_known.false))
+    card-taken (formed (goal.at.returns c).Else-number-eq0) (room (goal.at.returns c).Else-card_count-ge-CARD_LIMIT) (numbered (goal.at.returns c).Else-not-is_card_number) (rw (digits (goal.at.returns c).Else-not-is_card_number) at (sym c.is_known.ensures ∙ c.if-is_known.false))
     (rw (digits (goal.at.returns c).Else-not-is_card_number) at c.add_card.ensures)

@@ -12,13 +12,13 @@ use Rattle.rulebook.proofs.layout.is_member.Goals as goal
 use Rattle.rulebook.proofs.layout.is_member.Goals.{Else-not-is_within}
 
 inside : (c : Else-not-is_within) → (within c.args.group group_count && within c.args.m card_limit) ≡ true
-inside c = rw (← c.is_Within.ensures, ← c.is_within-2.ensures) (c.if-not-is_within.false)
+inside c = rw (← c.is_within.ensures, ← c.is_within-2.ensures) (c.if-not-is_within.false)
 
 pub returns-then-not-is_within : goal.returns-then-not-is_within
 unfolding member_view
 returns-then-not-is_within c =
     let a = c.args in
-    rw (not-true (within a.group group_count && within a.m card_limit) (rw (c.is_Within.ensures, c.is_within-2.ensures) at c.if-not-is_within.true))
+    rw (← c.is_within.ensures, ← c.is_within-2.ensures) (rw c.if-not-is_within.true)
 
 pub card_byte-requires : goal.card_byte-requires
 card_byte-requires c =

@@ -13,7 +13,7 @@ use Rattle.rulebook.proofs.rules.take.Goals.{Else-declared-owner, Else-not-form,
 
 -- the line has the form
 formed : (c : Else-not-form) → is_rule_line c.args.line.now ≡ true
-formed c = sym c.rule_form-form.ensures.formed ∙ c.if-not-form.false
+formed c = sym c.rule_form-form.ensures.formed ∙ not-false _ c.if-not-form.false
 
 -- its owner is declared
 above : (c : Else-declared-owner) → number_at c.args.line.now 2 ≤ c.args.declared
@@ -24,7 +24,7 @@ room : (c : Else-rule_count-ge-RULE_LIMIT) → rule_count c.args.rules.now < 56
 room c = omega (arith, c.if-rule_count-ge-RULE_LIMIT.false, c.rule_count.ensures)
 
 pub returns-then-not-form : goal.returns-then-not-form
-returns-then-not-form c = rule_no_form (sym c.rule_form-form.ensures.formed ∙ c.if-not-form.true)
+returns-then-not-form c = rule_no_form (sym c.rule_form-form.ensures.formed ∙ not-true _ c.if-not-form.true)
 
 pub returns-then-declared-owner : goal.returns-then-declared-owner
 returns-then-declared-owner c = rule-not_above (formed (goal.at.returns-then-declared-owner c).Else-not-form) (rw c.number_at-owner.ensures at c.if-declared-owner.true)
