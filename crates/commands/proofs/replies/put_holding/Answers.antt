@@ -28,3 +28,6 @@ returns c = (put_two {a = ascii "="} {m = 1} (record { put = refl; ends = refl }
 
 pub overflow_add-result : goal.overflow_add-result
 overflow_add-result c = omega (arith, room (goal.at.overflow_add-result c).After-put_number-end)
+
+pub bounds-out-end : goal.bounds-out-end
+bounds-out-end c = room (goal.at.bounds-out-end c).After-put_number-end
