@@ -10,9 +10,6 @@ use Rattle.commands.proofs.numbers.read.Goals as goal
 pub returns-then-not-is_plain : goal.returns-then-not-is_plain
 returns-then-not-is_plain c = sym (not_plain _ (sym c.is_plain.ensures ∙ c.if-not-is_plain.true))
 
-pub loop-i-init : goal.loop-i-init
-loop-i-init c = (midway_none _, search rules)
-
 pub returns-then-d-gt9 : goal.returns-then-d-gt9
 returns-then-d-gt9 c =
     sym (no_digit _ c.loop-i.invariant.0 (search rules) c.digit-d.ensures.0 c.if-d-gt9.true)
