@@ -1,11 +1,11 @@
 -- A line of a dialect: whether it is admitted, and what it is then.
 use mathlib.Core.Path.{◌≡◌, sym, ◌∙◌}
-use mathlib.Core.Bool.{Bool, true, false, not, ◌||◌}
+use mathlib.Core.Bool.{Bool, true, false, ◌||◌}
 use mathlib.Core.List.{List}
 use mathlib.Core.Option.{none}
 use Prim.Native.Nat.{ℕ, ◌≤◌, ◌<◌}
 use lib.ListN.{length, get_or}
-use borrow.Author.Tests.{le-leb, lt-leb, not-true, not-false}
+use borrow.Author.Tests.{le-leb, lt-leb}
 use Rattle.commands.specs.Reader.{read_command}
 use Rattle.commands.specs.Dialects.{is_scope_letter, admits, command_in}
 use Rattle.commands.specs.declared.Dialect.{Dialect}
@@ -20,10 +20,10 @@ module _ (d : Dialect) (line : List ℕ) where
   by_letter f l e = rw (le-leb (length line) d.longest l, e)
 
   module _ (a : Bool) (is : a ≡ admits d line) where
-    pub not_admitted : not a ≡ true → none ≡ command_in d line
+    pub not_admitted : a ≡ false → none ≡ command_in d line
     unfolding command_in
-    not_admitted e = let f : admits d line ≡ false = sym is ∙ not-true a e in rw f
+    not_admitted e = let f : admits d line ≡ false = sym is ∙ e in rw f
 
-    pub admitted : not a ≡ false → read_command line ≡ command_in d line
+    pub admitted : a ≡ true → read_command line ≡ command_in d line
     unfolding command_in
-    admitted e = let t : admits d line ≡ true = sym is ∙ not-false a e in rw t
+    admitted e = let t : admits d line ≡ true = sym is ∙ e in rw t

@@ -1,6 +1,5 @@
 -- Too long, or by its letter.
 use mathlib.Core.Path.{◌∙◌, ap}
-use borrow.Author.Rules.{rules}
 use Rattle.commands.specs.Dialects.{is_scope_letter}
 use Rattle.commands.proofs.Admission.{too_long, by_letter}
 use Rattle.commands.proofs.dialects.admits.Goals as goal

@@ -1,6 +1,5 @@
 -- Not admitted, or what the line is.
 use mathlib.Core.Path.{◌∙◌}
-use borrow.Author.Rules.{rules}
 use Rattle.commands.proofs.Admission.{not_admitted, admitted}
 use Rattle.commands.proofs.dialects.read_in.Goals as goal
 

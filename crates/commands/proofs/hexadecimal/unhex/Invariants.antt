@@ -1,13 +1,9 @@
 -- The loop has put the bytes of the first n pairs, which end before i.
-use mathlib.Core.Path.{◌≡◌, ◌∙◌, ap₂}
-use mathlib.Core.List.{List}
-use Prim.Native.Nat.{ℕ, ◌+◌, ◌-◌, ◌≤◌}
-use native.Mathlib.Omega.{arith}
-use lib.ListN.{length, get_or, drop, length-set}
-use borrow.Author.Rules.{rules}
-use Rattle.commands.specs.Reader.{pair_of, pair_bytes}
-use Rattle.commands.proofs.Pairs.{pair_stops, pair_follows}
-use Rattle.commands.proofs.Buffers.{Filling, filling_none, filling_more, filled_all, filled_full}
+use mathlib.Core.Path.{◌≡◌}
+use Prim.Native.Nat.{◌-◌, ◌≤◌}
+use lib.ListN.{length, drop}
+use Rattle.commands.specs.Reader.{pair_bytes}
+use Rattle.commands.proofs.Buffers.{Filling}
 use Rattle.commands.proofs.hexadecimal.unhex.Given as goal
 
 abbrev pub invariant-loop-n : goal.invariant-loop-n

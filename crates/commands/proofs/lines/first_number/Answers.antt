@@ -1,5 +1,5 @@
 -- The word ends where its space is, and its number is the reader's.
-use mathlib.Core.Path.{sym, ◌∙◌}
+use mathlib.Core.Path.{sym}
 use Prim.Native.Nat.{◌<◌}
 use native.Mathlib.Omega.{arith}
 use lib.ListN.{length}
@@ -13,9 +13,9 @@ returns-then-end-line c = (sym (no_number _ _ _ c.find-end.ensures.0 c.if-end-li
 pub returns-in-Is : goal.returns-in-Is
 returns-in-Is c =
     let l : c.find-end.result < length c.args.line.now = search rules in
-    (sym (a_number _ _ _ c.find-end.ensures.0 l _ c.read.ensures ∙ rw c.value-1.given.1), omega arith)
+    (sym (a_number _ _ _ c.find-end.ensures.0 l _ c.in-Is.ensures), omega arith)
 
 pub returns-in-Missing : goal.returns-in-Missing
 returns-in-Missing c =
     let l : c.find-end.result < length c.args.line.now = search rules in
-    (sym (a_number _ _ _ c.find-end.ensures.0 l _ c.read.ensures ∙ rw c.enum_told-1.given.1), tt)
+    (sym (a_number _ _ _ c.find-end.ensures.0 l _ c.in-Missing.ensures), tt)

@@ -1,6 +1,5 @@
 -- The five stores are `book `, and the two numbers follow them.
 use mathlib.Core.Path.{refl}
-use borrow.Author.Rules.{rules}
 use Rattle.model.specs.Lists.{ascii}
 use Rattle.commands.proofs.Buffers.{put_then, printed}
 use Rattle.commands.proofs.replies.put_book.Goals as goal
