@@ -117,7 +117,7 @@ fn count_equal(list: &[Transfer], t: Transfer) -> usize
     sum
 }
 
-// The list is lent from here, so that only this function and the one above are proved by hand walks.
+// The list is lent from here, as a slice of structs: its first n.
 fn count_first(list: [Transfer; 32], n: usize, t: Transfer) -> usize
     requires { n ≤ 32 }
     ensures { result ≡ count (transfer_of t) (transfers_of (take n list)) }
