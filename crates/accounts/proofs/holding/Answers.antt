@@ -1,6 +1,5 @@
 -- A refusal is the first of questions 8 and 9; otherwise the holding at the card's and kind's place is told.
 use native.Mathlib.Omega.{arith}
-use borrow.Author.Rules.{rules}
 use Rattle.accounts.proofs.AccountLaws.{Account, account_met, query_unknown, query_told}
 use Rattle.accounts.proofs.holding.Goals as goal
 use Rattle.accounts.proofs.holding.Goals.{Else-refusal-ne0}

@@ -1,8 +1,6 @@
 -- The loop adds up the cards one by one: `SumTo` says of which cards the sum is, and that it stays far below the width.
 use Prim.Native.Nat.{◌-◌}
-use native.Mathlib.Omega.{arith}
-use borrow.Author.Rules.{rules}
-use Rattle.accounts.proofs.AccountLaws.{SumTo, sum_none, sum_more, sum_nothing, sum_all}
+use Rattle.accounts.proofs.AccountLaws.{SumTo}
 use Rattle.accounts.proofs.kind_sum.Given as goal
 
 abbrev pub invariant-loop-i : goal.invariant-loop-i

@@ -1,5 +1,4 @@
 -- The holdings are lent, and the engine is returned as it was.
-use borrow.Author.Rules.{rules}
 use Rattle.engine.proofs.CallLaws.{book-cards, called}
 use Rattle.engine.proofs.holding.Goals as goal
 

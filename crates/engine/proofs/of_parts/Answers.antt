@@ -1,6 +1,5 @@
 -- Each store is of the byte that is there.
 use lib.Seq.{set-get_or}
-use borrow.Author.Rules.{rules}
 use Rattle.engine.proofs.of_parts.Goals as goal
 
 pub returns : goal.returns

@@ -1,6 +1,5 @@
 -- The holdings are moved in place, in a copy, which is the returned engine's.
 use Rattle.engine.proofs.CallLaws.{called}
-use borrow.Author.Rules.{rules}
 use Rattle.engine.proofs.settle.Goals as goal
 
 pub returns : goal.returns

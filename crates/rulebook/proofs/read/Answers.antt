@@ -1,7 +1,6 @@
 -- The text is too long, or its lines give the answer: the opening's.
 use mathlib.Core.Path.{sym}
 use Rattle.rulebook.proofs.Texts.{too_long, reads_refused, reads_done}
-use borrow.Author.Rules.{rules}
 use Rattle.rulebook.proofs.read.Goals as goal
 
 pub returns-then-text-gt-TEXT_LIMIT : goal.returns-then-text-gt-TEXT_LIMIT

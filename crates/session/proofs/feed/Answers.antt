@@ -1,7 +1,6 @@
 -- No room for a line, or the block is walked over a copy of the holdings.
 use native.Mathlib.Omega.{arith}
 use lib.ListN.{length-take}
-use borrow.Author.Rules.{rules}
 use Rattle.session.proofs.Sessions.{feeds_nothing, feeds}
 use Rattle.session.proofs.feed.Goals as goal
 

@@ -9,7 +9,7 @@ use Rattle.session.proofs.finish.Goals as goal
 use Rattle.session.proofs.finish.Goals.{After-least-size}
 
 -- as much of the line as is kept and lent
-size_is : (c : After-least-size) → 
+size_is : (c : After-least-size) →
     c.least-size.result ≡ min (min c.args.session.size (line_room c.args.session.dialect)) (length c.args.buffer.now)
 size_is c = omega (arith, c.least-size.ensures, c.least-kept.ensures, c.line_room.ensures)
 

@@ -2,7 +2,6 @@
 use mathlib.Core.Path.{◌≡◌, sym, ◌∙◌}
 use lib.ListN.{length}
 use borrow.Author.Rules.{rules}
-use borrow.Author.Tests.{not-true, not-false}
 use Rattle.settling.proofs.FinishLaws.{not_covered, exceeds, moved}
 use Rattle.settling.proofs.finish.Goals as goal
 

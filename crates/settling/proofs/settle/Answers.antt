@@ -1,6 +1,5 @@
 -- The judge's reply, by cases: a refusal is the reply, with the holdings as they were, and what passes is finished.
 use Rattle.settling.proofs.JudgedLaws.{judge_stops, judge_passes, finish_refuses, finish_moves}
-use borrow.Author.Rules.{rules}
 use Rattle.settling.proofs.settle.Goals as goal
 
 pub returns-in_default : goal.returns-in_default

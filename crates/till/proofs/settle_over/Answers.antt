@@ -1,7 +1,6 @@
 -- Each return is the law of the step that refuses, or of all that pass; the copy that is asked and moved equals the lent holdings.
 use mathlib.Core.Path.{sym, ◌∙◌}
 use Rattle.till.proofs.CallLaws.{count-refuses, undeclared-refuses, sums_refuse, settling-refuses, settling-done}
-use borrow.Author.Rules.{rules}
 use Rattle.till.proofs.settle_over.Goals as goal
 
 pub returns-then-holdings-ne-COUNT : goal.returns-then-holdings-ne-COUNT

@@ -1,5 +1,4 @@
 -- The text's answer, by cases: a refusal is the answer, with the holdings as they were, and what is read goes on over its tables.
-use borrow.Author.Rules.{rules}
 use Rattle.till.proofs.CallLaws.{text_refused, text_read}
 use Rattle.till.proofs.thawcroft_settle.Goals as goal
 

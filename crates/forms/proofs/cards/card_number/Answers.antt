@@ -10,7 +10,6 @@ use Rattle.model.proofs.Places.{to_end}
 use Rattle.forms.specs.Numbers.{in_row}
 use Rattle.forms.specs.inner.Words.{word_digits}
 use Rattle.forms.proofs.Digits.{none-short, none_unspaced, digits-after}
-use borrow.Author.Rules.{rules}
 use Rattle.forms.proofs.cards.card_number.Goals as goal
 
 pub returns-then-line-le2 : goal.returns-then-line-le2

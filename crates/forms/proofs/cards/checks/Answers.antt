@@ -1,11 +1,11 @@
 -- The sum of what the digits before i count, with those from i on, is the whole sum.
 use mathlib.Core.Path.{◌≡◌}
-use Prim.Native.Nat.{◌+◌, ◌*◌, ◌-◌, ◌≤◌, ◌<◌}
+use Prim.Native.Nat.{◌<◌}
 use native.Mathlib.Omega.{arith}
-use lib.ListN.{length, take, drop}
+use lib.ListN.{length}
 use lib.Seq.{get_or-take, length-take-le}
 use Rattle.model.specs.Limits.{most_digits}
-use Rattle.model.specs.CardNumbers.{luhn_sum, luhn}
+use Rattle.model.specs.CardNumbers.{luhn}
 use Rattle.forms.specs.Numbers.{digits_in}
 use Rattle.forms.proofs.Digits.{sum_more, luhn-is}
 use borrow.Author.Rules.{rules}

@@ -5,7 +5,6 @@ use native.Mathlib.Omega.{arith}
 use borrow.Author.Tests.{le-leb, lt-leb}
 use lib.Seq.{set_out}
 use Rattle.model.specs.Reader.{is_digit}
-use borrow.Author.Rules.{rules}
 use Rattle.forms.proofs.cards.put_digit.Goals as goal
 use Rattle.forms.proofs.cards.put_digit.Goals.{Else-d-gt9}
 

@@ -2,9 +2,7 @@
 use mathlib.Core.Path.{◌≡◌, sym, ◌∙◌, ap}
 use mathlib.Core.Bool.{false, not}
 use mathlib.Core.List.{List}
-use Prim.Native.Nat.{ℕ, ◌+◌, ◌-◌, ◌≤◌}
-use lib.Dec.{eqb}
-use lib.ListN.{length, drop}
+use Prim.Native.Nat.{ℕ, ◌+◌}
 use borrow.Author.Tests.{eq-eqb, ne_eqb}
 use Rattle.model.specs.Reader.{in_printed_groups}
 use Rattle.forms.proofs.Digits.{misplaced, placed, all_placed, Taken, taken_none, taken_more, taken-size, taken_all}

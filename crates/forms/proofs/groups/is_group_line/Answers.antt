@@ -1,6 +1,5 @@
 -- The expression is the definition, over what the calls give.
 use Rattle.model.specs.Reader.{is_group_line}
-use borrow.Author.Rules.{rules}
 use Rattle.forms.proofs.groups.is_group_line.Goals as goal
 
 pub returns : goal.returns

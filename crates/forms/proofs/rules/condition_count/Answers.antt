@@ -1,7 +1,7 @@
 -- The loop counts the conditions that are before place i.
 use Rattle.std.proofs.Common.{ap, not}
 use mathlib.Core.Path.{◌≡◌, refl, sym}
-use Prim.Native.Nat.{◌+◌, ◌*◌, ◌-◌, ◌≤◌}
+use Prim.Native.Nat.{◌+◌, ◌*◌}
 use native.Mathlib.Omega.{arith}
 use Rattle.model.specs.Reader.{has_condition, leading, condition_count}
 use Rattle.forms.proofs.Counts.{Counting, counted, one_more}

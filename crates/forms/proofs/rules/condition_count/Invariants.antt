@@ -1,10 +1,7 @@
 -- The loop counts the conditions that are before place i.
-use mathlib.Core.Path.{◌≡◌, refl, sym}
+use mathlib.Core.Path.{◌≡◌}
 use Prim.Native.Nat.{◌+◌, ◌*◌, ◌-◌, ◌≤◌}
-use native.Mathlib.Omega.{arith}
-use Rattle.model.specs.Reader.{has_condition, leading, condition_count}
-use Rattle.forms.proofs.Counts.{Counting, counted, one_more}
-use borrow.Author.Rules.{rules}
+use Rattle.model.specs.Reader.{has_condition, leading}
 use Rattle.forms.proofs.rules.condition_count.Given as goal
 
 abbrev pub invariant-loop-i : goal.invariant-loop-i

@@ -1,6 +1,5 @@
 -- A line that ends before has no condition there; else the expression is the definition, over what the calls give.
 use Rattle.model.specs.Reader.{has_condition}
-use borrow.Author.Rules.{rules}
 use Rattle.forms.proofs.Short.{condition_short}
 use Rattle.forms.proofs.rules.has_condition.Goals as goal
 

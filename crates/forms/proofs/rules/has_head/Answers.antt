@@ -1,6 +1,5 @@
 -- The expression is the definition, over what the calls give.
 use Rattle.model.specs.Reader.{has_head}
-use borrow.Author.Rules.{rules}
 use Rattle.forms.proofs.rules.has_head.Goals as goal
 
 pub returns : goal.returns

@@ -1,6 +1,5 @@
 -- A line that ends before has no price there; else the expression is the definition, over what the calls give.
 use Rattle.model.specs.Reader.{has_price}
-use borrow.Author.Rules.{rules}
 use Rattle.forms.proofs.Short.{price_short}
 use Rattle.forms.proofs.rules.has_price.Goals as goal
 

@@ -1,6 +1,5 @@
 -- The expression is the definition, over what `byte` gives.
 use Rattle.model.specs.Reader.{mark_at}
-use borrow.Author.Rules.{rules}
 use Rattle.forms.proofs.rules.marked.Goals as goal
 
 pub returns : goal.returns

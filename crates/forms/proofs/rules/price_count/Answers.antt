@@ -1,7 +1,7 @@
 -- The loop counts the prices that are before place i.
 use Rattle.std.proofs.Common.{ap, not}
 use mathlib.Core.Path.{◌≡◌, refl, sym}
-use Prim.Native.Nat.{◌+◌, ◌*◌, ◌-◌, ◌≤◌}
+use Prim.Native.Nat.{◌+◌, ◌*◌}
 use native.Mathlib.Omega.{arith}
 use Rattle.model.specs.Reader.{has_price, leading, price_count}
 use Rattle.forms.proofs.Counts.{Counting, counted, one_more}

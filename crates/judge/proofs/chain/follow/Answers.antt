@@ -10,7 +10,7 @@ use Rattle.model.specs.Transfers.{exchange_of}
 use Rattle.transfers.specs.View.{transfer_count}
 use Rattle.rulebook.specs.View.{book_of}
 use Rattle.judge.specs.inner.Counts.{is_paid}
-use Rattle.judge.proofs.Following.{Going, going_first, going_stops, going_ends, Turn, turn_facts}
+use Rattle.judge.proofs.Following.{going_first, going_stops, going_ends, Turn, turn_facts}
 use Rattle.model.specs.Questions.{ok, refused, done}
 use Rattle.model.specs.Proof.{record_at, judge_chain}
 use Rattle.judge.proofs.chain.follow.Goals as goal
@@ -37,7 +37,7 @@ number c = omega (arith, here (goal.at.After-record_at-rec c).In-loop-i)
 taken : (c : After-record_at-rec) → c.record_at-rec.result.now ≡ record_at c.args.proof.now c.loop-i.next
 taken c = rw (number c) at c.record_at-rec.ensures
 
-turn : (c : Else-q-ne0) → let o = c.loop-i in 
+turn : (c : Else-q-ne0) → let o = c.loop-i in
     Turn c.args.cards.now c.args.rules.now c.args.exchange.now c.args.proof.now c.first_gifts-firsts.result (left (goal.at.Else-q-ne0 c).At-loop-i) o.marks o.counts o.missing c.record_at-rec.result.now
 turn c =
     let o = c.loop-i in
@@ -46,7 +46,7 @@ turn c =
     o.invariant.1 (some (goal.at.Else-q-ne0 c).In-loop-i) (taken (goal.at.Else-q-ne0 c).After-record_at-rec) (sym q ∙ c.if-q-ne0.false)
 
 -- the answer after the loop is question 21's
-ended : (c : After-loop-i) → let o = c.loop-i in 
+ended : (c : After-loop-i) → let o = c.loop-i in
     cond (is_paid c.args.exchange.now o.counts o.missing) (ok done) (refused 21 0) ≡ judge_chain (book_of c.args.cards.now c.args.rules.now) (exchange_of c.args.exchange.now) c.args.proof.now
 ended c =
     let o = c.loop-i in

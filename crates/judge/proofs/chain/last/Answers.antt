@@ -1,6 +1,4 @@
 -- Each return is one case of the question.
-use borrow.Author.Rules.{rules}
-use borrow.Author.Tests.{not-true, not-false}
 use mathlib.Core.Path.{sym, ◌∙◌}
 use Rattle.judge.proofs.chain.last.Goals as goal
 

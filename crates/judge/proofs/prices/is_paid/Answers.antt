@@ -2,7 +2,6 @@
 use Rattle.judge.specs.inner.Counts.{is_paid}
 use Rattle.judge.proofs.Paying.{once_met}
 use mathlib.Core.Path.{sym, ◌∙◌}
-use borrow.Author.Rules.{rules}
 use Rattle.judge.proofs.prices.is_paid.Goals as goal
 
 pub returns-then-missing : goal.returns-then-missing

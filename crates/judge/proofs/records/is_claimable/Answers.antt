@@ -1,7 +1,5 @@
 -- Past the bounds the mark is read.
-use borrow.Author.Tests.{not-true, not-false}
 use native.Mathlib.Omega.{arith}
-use Rattle.model.specs.Lists.{within}
 use Rattle.model.proofs.Tests.{within-true}
 use Rattle.judge.proofs.records.is_claimable.Goals as goal
 

@@ -1,11 +1,10 @@
 -- The first i cards are unlike the number's digits. Card i + 1 is told from them by its first digit that differs, or by its length; otherwise
 -- it is equal.
 use mathlib.Core.Path.{◌≡◌, refl, sym, ◌∙◌, ap}
-use mathlib.Core.Bool.{false}
-use Prim.Native.Nat.{ℕ, suc, ◌+◌, ◌-◌, ◌<◌, ◌≤◌}
+use Prim.Native.Nat.{ℕ, suc, ◌+◌, ◌<◌}
 use native.Mathlib.Omega.{arith}
 use lib.Dec.{ltb}
-use lib.ListN.{length, get_or, take}
+use lib.ListN.{length, get_or}
 use lib.Seq.{get_or-take, length-take-le}
 use borrow.Author.Count.{below_more}
 use borrow.Author.Tests.{lt-ltb, ltb-true, eqb-true, eqb-false, not-true, not-false}
@@ -13,7 +12,7 @@ use Rattle.model.proofs.Tests.{both_true}
 use Rattle.model.specs.Limits.{most_digits}
 use Rattle.forms.specs.Numbers.{digits_in}
 use Rattle.rulebook.specs.View.{card_count, card_length, digit_at}
-use Rattle.rulebook.proofs.Known.{Unlike, other_length, other_digit, equal_card}
+use Rattle.rulebook.proofs.Known.{other_length, other_digit, equal_card}
 use borrow.Author.Rules.{rules}
 use Rattle.rulebook.proofs.cards.is_known.Goals as goal
 use Rattle.rulebook.proofs.cards.is_known.Goals.{After-card_length, After-digit_at, After-loop-d, At-loop-d}

@@ -1,20 +1,12 @@
 -- The first i cards are unlike the number's digits. Card i + 1 is told from them by its first digit that differs, or by its length; otherwise
 -- it is equal.
-use mathlib.Core.Path.{◌≡◌, refl, sym, ◌∙◌, ap}
+use mathlib.Core.Path.{◌≡◌}
 use mathlib.Core.Bool.{false}
-use Prim.Native.Nat.{ℕ, suc, ◌+◌, ◌-◌, ◌<◌, ◌≤◌}
-use native.Mathlib.Omega.{arith}
-use lib.Dec.{ltb}
-use lib.ListN.{length, get_or, take}
-use lib.Seq.{get_or-take, length-take-le}
-use borrow.Author.Count.{below_more}
-use borrow.Author.Tests.{lt-ltb, ltb-true, eqb-true, eqb-false, not-true, not-false}
-use Rattle.model.proofs.Tests.{both_true}
+use Prim.Native.Nat.{ℕ, suc, ◌-◌, ◌<◌, ◌≤◌}
+use lib.ListN.{get_or, take}
 use Rattle.model.specs.Limits.{most_digits}
-use Rattle.forms.specs.Numbers.{digits_in}
-use Rattle.rulebook.specs.View.{card_count, card_length, digit_at}
-use Rattle.rulebook.proofs.Known.{Unlike, other_length, other_digit, equal_card}
-use borrow.Author.Rules.{rules}
+use Rattle.rulebook.specs.View.{digit_at}
+use Rattle.rulebook.proofs.Known.{Unlike}
 use Rattle.rulebook.proofs.cards.is_known.Given as goal
 
 abbrev pub invariant-loop-d : goal.invariant-loop-d

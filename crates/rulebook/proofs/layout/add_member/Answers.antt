@@ -1,6 +1,5 @@
 -- One byte is written.
 use Rattle.rulebook.proofs.Written.{member-added}
-use borrow.Author.Rules.{rules}
 use Rattle.rulebook.proofs.layout.add_member.Goals as goal
 
 pub returns : goal.returns

@@ -1,6 +1,5 @@
 -- The number is cut to its limit.
 use Rattle.rulebook.specs.View.{card_count}
-use borrow.Author.Rules.{rules}
 use Rattle.rulebook.proofs.layout.card_count.Goals as goal
 
 pub returns : goal.returns

@@ -2,12 +2,10 @@
 use mathlib.Core.Path.{◌≡◌}
 use mathlib.Core.Bool.{true, ◌&&◌}
 use native.Mathlib.Omega.{arith}
-use borrow.Author.Tests.{not-true, not-false}
 use Rattle.model.specs.Limits.{card_limit, group_count}
 use Rattle.model.specs.Lists.{within}
 use Rattle.model.proofs.Tests.{both_true, within-true}
 use Rattle.rulebook.specs.View.{member_view}
-use borrow.Author.Rules.{rules}
 use Rattle.rulebook.proofs.layout.is_member.Goals as goal
 use Rattle.rulebook.proofs.layout.is_member.Goals.{Else-not-is_within}
 

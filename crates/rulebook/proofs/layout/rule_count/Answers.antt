@@ -1,6 +1,5 @@
 -- The number is cut to its limit.
 use Rattle.rulebook.specs.View.{rule_count}
-use borrow.Author.Rules.{rules}
 use Rattle.rulebook.proofs.layout.rule_count.Goals as goal
 
 pub returns : goal.returns

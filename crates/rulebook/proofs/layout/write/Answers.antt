@@ -1,9 +1,7 @@
 -- The loop has written the row's first j bytes.
 use mathlib.Core.Path.{◌≡◌}
-use Prim.Native.Nat.{◌-◌, ◌≤◌}
 use native.Mathlib.Omega.{arith}
 use lib.ListN.{length}
-use Rattle.rulebook.specs.inner.Writes.{Written}
 use Rattle.rulebook.proofs.Written.{written_none, written_more}
 use borrow.Author.Rules.{rules}
 use Rattle.rulebook.proofs.layout.write.Goals as goal

@@ -1,5 +1,4 @@
 -- The bytes put are the definition's, over what the calls give.
-use borrow.Author.Rules.{rules}
 use Rattle.rulebook.proofs.rules.put_head.Goals as goal
 
 pub returns : goal.returns

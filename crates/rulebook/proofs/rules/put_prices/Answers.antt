@@ -1,10 +1,8 @@
 -- The loop has put the prices before i.
 use mathlib.Core.Path.{◌≡◌, refl}
-use Prim.Native.Nat.{◌-◌, ◌≤◌}
 use native.Mathlib.Omega.{arith}
 use native.Mathlib.Numerals.{add-one}
-use lib.ListN.{length, length-set}
-use Rattle.rulebook.specs.Layout.{rule_row_size}
+use lib.ListN.{length-set}
 use Rattle.rulebook.specs.inner.Rows.{price_cells}
 use borrow.Author.Rules.{rules}
 use Rattle.rulebook.proofs.rules.put_prices.Goals as goal
@@ -20,8 +18,7 @@ pub loop-i-preserved : goal.loop-i-preserved
 unfolding price_cells
 loop-i-preserved c =
     let h = c.loop-i in
-    let put = c.put_price.ensures in
-    (
+    let put = c.put_price.ensures in (
       search rules,
       rw (add-one h.i, put, c.name.ensures, c.kind.ensures, c.variable.ensures, c.byte-in-loop-i-2.ensures, c.byte-in-loop-i.ensures, c.byte.ensures, h.invariant.1),
       rw put (simp length-set h.invariant.2),

@@ -1,12 +1,9 @@
 -- The loop has put the prices before i.
-use mathlib.Core.Path.{◌≡◌, refl}
+use mathlib.Core.Path.{◌≡◌}
 use Prim.Native.Nat.{◌-◌, ◌≤◌}
-use native.Mathlib.Omega.{arith}
-use native.Mathlib.Numerals.{add-one}
-use lib.ListN.{length, length-set}
+use lib.ListN.{length}
 use Rattle.rulebook.specs.Layout.{rule_row_size}
 use Rattle.rulebook.specs.inner.Rows.{price_cells}
-use borrow.Author.Rules.{rules}
 use Rattle.rulebook.proofs.rules.put_prices.Given as goal
 
 abbrev pub invariant-loop-i : goal.invariant-loop-i

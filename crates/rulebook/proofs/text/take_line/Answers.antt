@@ -1,7 +1,6 @@
 -- By the first letter, one law for each form.
 use mathlib.Core.Path.{sym, ◌∙◌}
 use Rattle.rulebook.proofs.Lines.{card-line, group-line, rule-line, no_line}
-use borrow.Author.Rules.{rules}
 use Rattle.rulebook.proofs.text.take_line.Goals as goal
 
 pub returns-in-67 : goal.returns-in-67

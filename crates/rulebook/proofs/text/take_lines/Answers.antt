@@ -1,11 +1,8 @@
 -- What is left to read, over the book of the tables so far, is the whole text's opening.
-use mathlib.Core.Path.{◌≡◌, sym}
-use Prim.Native.Nat.{◌+◌, ◌-◌, ◌<◌, ◌≤◌}
+use mathlib.Core.Path.{sym}
+use Prim.Native.Nat.{◌<◌}
 use lib.ListN.{length}
-use Rattle.model.specs.Opening.{opening}
-use Rattle.rulebook.specs.View.{book_of}
-use Rattle.rulebook.specs.inner.Lines.{Sized}
-use Rattle.rulebook.proofs.Texts.{open_from, starts, empty_sized, all_read, Turn, no-LF, line_refused, line_read}
+use Rattle.rulebook.proofs.Texts.{starts, empty_sized, all_read, Turn, no-LF, line_refused, line_read}
 use borrow.Author.Rules.{rules}
 use Rattle.rulebook.proofs.text.take_lines.Goals as goal
 use Rattle.rulebook.proofs.text.take_lines.Goals.{After-find-end, Else-end-text}
