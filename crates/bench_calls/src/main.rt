@@ -13,7 +13,7 @@ ghost use Rattle.commands.specs.View.{LiesIn};
 use calls::Repeated;
 use commands::{Command, Words};
 use engine::Engine;
-use libc::{STDIN_FILENO, STDOUT_FILENO};
+use std::io::Read;
 
 const REPEATS: u32 = 100_000;
 
@@ -25,13 +25,14 @@ fn input_buffer() -> [u8; 32768]
 }
 
 // Standard input, as far as there is room: how many bytes.
-fn read_input(input: &mut [u8]) -> usize
+fn read_input(from: &mut impl Read, input: &mut [u8]) -> usize
     ensures { (result ≤ length input.new) × (length input.new ≡ length input.old) }
 {
     let mut size = 0;
     while size < input.len() {
-        let got = libc::read(STDIN_FILENO, &mut input[size..]);
-        let count = io::count(got, &input[size..]);
+        let Ok(count) = from.read(&mut input[size..]) else {
+            return size;
+        };
         if count == 0 {
             return size;
         }
@@ -93,14 +94,13 @@ fn perform(engine: Engine, line: &[u8], times: u32) -> Repeated {
 }
 
 // Each line so many times.
-fn perform_lines(engine: Engine, lines: &[u8], times: u32) -> Engine {
+fn perform_lines(rt: &impl Print, engine: Engine, lines: &[u8], times: u32) -> Engine {
     let mut next = engine;
     let mut at = 0;
     let mut end = ascii::find(lines, 0, b'\n');
     while end < lines.len() {
         let repeated = perform(next, &lines[at..end], times);
-        io::print_decimal(STDOUT_FILENO, repeated.count as u64);
-        io::write_all(STDOUT_FILENO, b"\n");
+        let _ = rt.println(repeated.count);
         next = repeated.engine;
         at = end + 1;
         end = ascii::find(lines, at, b'\n');
@@ -109,19 +109,19 @@ fn perform_lines(engine: Engine, lines: &[u8], times: u32) -> Engine {
 }
 
 // The input's three parts, in order.
-fn perform_input(input: &[u8]) {
+fn perform_input(rt: &impl Print, input: &[u8]) {
     let size = input.len();
     let text = empty_line(input, 0);
     let once = after(text, size);
     let last = empty_line(input, once);
     let often = after(last, size);
     let opened = engine::open(&input[..text]);
-    let begun = perform_lines(opened.engine, &input[once..last], 1);
-    perform_lines(begun, &input[often..], REPEATS);
+    let begun = perform_lines(rt, opened.engine, &input[once..last], 1);
+    perform_lines(rt, begun, &input[often..], REPEATS);
 }
 
-fn main() {
+fn main(rt: HostRuntime) {
     let mut input = input_buffer();
-    let size = read_input(&mut input);
-    perform_input(&input[..size]);
+    let size = read_input(&mut rt.reader(), &mut input);
+    perform_input(&rt, &input[..size]);
 }

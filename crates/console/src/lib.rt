@@ -10,8 +10,10 @@ ghost use Rattle.std.specs.Prelude.{◌≡◌, length};
 ghost use Rattle.console.specs.inner.Bounds.{InBuffer};
 
 use commands::{ANSWER_SIZE, Dialect};
-use libc::{STDIN_FILENO, STDOUT_FILENO};
 use session::Session;
+use std::fs::File;
+use std::io::Read;
+use std::rt::Files;
 
 // One byte more than a rule text may have is enough to refuse it.
 const TEXT_ROOM: usize = limits::TEXT_LIMIT as usize + 1;
@@ -36,16 +38,14 @@ struct AfterBlock {
 }
 
 // A file's bytes from its start, as far as there is room.
-fn read_text(file: i32, text: &mut [u8]) -> Text
+fn read_text(file: &mut impl Read, text: &mut [u8]) -> Text
     ensures { InBuffer result text.new }
 {
     let mut size = 0;
     while size < text.len() {
-        let got = libc::read(file, &mut text[size..]);
-        if got < 0 {
+        let Ok(count) = file.read(&mut text[size..]) else {
             return Text::Missing;
-        }
-        let count = io::count(got, &text[size..]);
+        };
         if count == 0 {
             return Text::Read(size);
         }
@@ -54,23 +54,29 @@ fn read_text(file: i32, text: &mut [u8]) -> Text
     Text::Read(size)
 }
 
-fn read_book(name: &[u8], text: &mut [u8]) -> Text
+// A name that is not UTF-8 names no file: a path is text.
+fn read_book(rt: &impl Files, name: &[u8], text: &mut [u8]) -> Text
     ensures { InBuffer result text.new }
 {
-    let file = os::open_read(name);
-    if file < 0 {
+    let Ok(path) = str::from_utf8(name) else {
         return Text::Missing;
-    }
-    let read = read_text(file, text);
-    libc::close(file);
-    read
+    };
+    let Ok(mut file) = File::open(rt, path) else {
+        return Text::Missing;
+    };
+    read_text(&mut file, text)
+}
+
+// Whether all of the bytes were written; none of them waits for more.
+fn write(rt: &impl Print, bytes: &[u8]) -> bool {
+    rt.write_all(bytes).is_ok()
 }
 
 // For a book that cannot be read, and for more arguments than one.
-pub fn say_bad() {
+pub fn say_bad(rt: &impl Print) {
     let mut out = [0; ANSWER_SIZE];
     let count = commands::put_bad(&mut out);
-    io::write_all(STDOUT_FILENO, &out[..count]);
+    write(rt, &out[..count]);
 }
 
 fn text_buffer() -> [u8; TEXT_ROOM]
@@ -96,7 +102,13 @@ fn after(session: Session, whole: bool) -> AfterBlock {
 }
 
 // A block that was read, answered and written.
-fn answer(session: Session, buffer: &mut [u8], block: &[u8], out: &mut [u8]) -> AfterBlock {
+fn answer(
+    rt: &impl Print,
+    session: Session,
+    buffer: &mut [u8],
+    block: &[u8],
+    out: &mut [u8],
+) -> AfterBlock {
     let mut next = session;
     let mut at = 0;
     while at < block.len() {
@@ -104,7 +116,7 @@ fn answer(session: Session, buffer: &mut [u8], block: &[u8], out: &mut [u8]) -> 
         let taken = fed.taken;
         let count = fed.count;
         next = fed.session;
-        if !io::write_all(STDOUT_FILENO, &out[..count]) {
+        if !write(rt, &out[..count]) {
             return after(next, false);
         }
         // The buffer lacks its room: no call would take more.
@@ -117,47 +129,44 @@ fn answer(session: Session, buffer: &mut [u8], block: &[u8], out: &mut [u8]) -> 
 }
 
 // The input to its end, then a last line that lacks its LF. The count of reads is what shows that this ends.
-fn converse(session: Session, buffer: &mut [u8]) {
+fn converse(rt: &(impl Input + Print), session: Session, buffer: &mut [u8]) {
     let mut next = session;
     let mut block = block_buffer();
     let mut out = answers_buffer();
-    let mut reads: u64 = 18446744073709551615;
-    while 0 < reads {
-        let got = libc::read(STDIN_FILENO, &mut block);
+    let mut input = rt.reader();
+    for _ in 0..u64::MAX {
         // Not the input's end: what was read of a line is not the line.
-        if got < 0 {
+        let Ok(count) = input.read(&mut block) else {
             return;
-        }
-        let count = io::count(got, &block);
+        };
         if count == 0 {
             break;
         }
-        let answered = answer(next, buffer, &block[..count], &mut out);
+        let answered = answer(rt, next, buffer, &block[..count], &mut out);
         if !answered.whole {
             return;
         }
         next = answered.session;
-        reads -= 1;
     }
     let mut last = [0; ANSWER_SIZE];
     let count = session::finish(next, buffer, &mut last);
-    io::write_all(STDOUT_FILENO, &last[..count]);
+    write(rt, &last[..count]);
 }
 
 // The file of this name opened, then the input answered. In a buffer that is no longer than the dialect's longest line, no line is answered.
-pub fn run(dialect: Dialect, name: &[u8], buffer: &mut [u8]) {
+pub fn run(rt: &(impl Files + Input + Print), dialect: Dialect, name: &[u8], buffer: &mut [u8]) {
     let mut text = text_buffer();
-    let read = read_book(name, &mut text);
+    let read = read_book(rt, name, &mut text);
     let Text::Read(size) = read else {
-        say_bad();
+        say_bad(rt);
         return;
     };
     let mut out = [0; ANSWER_SIZE];
     let begun = session::begin(dialect, &text[..size], &mut out);
     let count = begun.count;
-    let written = io::write_all(STDOUT_FILENO, &out[..count]);
+    let written = write(rt, &out[..count]);
     if written & begun.opened {
         let session = begun.session;
-        converse(session, buffer);
+        converse(rt, session, buffer);
     }
 }

@@ -15,7 +15,7 @@ fn line_buffer() -> [u8; LINE_ROOM]
     [0; LINE_ROOM]
 }
 
-fn main() {
+fn main(rt: HostRuntime) {
     let mut buffer = line_buffer();
-    console::run(commands::ringswap(), b"book.txt", &mut buffer);
+    console::run(&rt, commands::ringswap(), b"book.txt", &mut buffer);
 }

@@ -1,8 +1,9 @@
 // Issuing, redeeming and the holding query: questions 8 to 11.
 use crate::tell;
 
-pub(crate) fn questions() {
+pub(crate) fn questions(rt: &impl Print) {
     tell::calls(
+        rt,
         tell::open(),
         b"issue to card 0:I 0 1 1;\
           issue to card 4:I 4 1 1;\
@@ -23,8 +24,9 @@ pub(crate) fn questions() {
     );
 }
 
-pub(crate) fn sums() {
+pub(crate) fn sums(rt: &impl Print) {
     tell::calls(
+        rt,
         tell::open(),
         b"issue of 1,000,000,001:I 1 1 1000000001;\
           issue of 999,999,999:I 1 1 999999999;\

@@ -23,21 +23,21 @@ fn exchange() -> [u8; 99] {
 }
 
 // The first transfers with the first records, while card 1 holds so many tokens.
-fn settle(label: &[u8], held: u32, transfers: usize, records: usize) -> Engine
+fn settle(rt: &impl Print, label: &[u8], held: u32, transfers: usize, records: usize) -> Engine
     requires { (transfers ≤ 33) × (records ≤ 32) }
 {
     let x = exchange();
     let p = free::proof(&x);
     let bytes = transfers * 3;
     let size = records * 12;
-    tell::settle(label, open(held), &x[..bytes], &p[..size])
+    tell::settle(rt, label, open(held), &x[..bytes], &p[..size])
 }
 
-pub(crate) fn settlements() {
-    let e = settle(b"96 bytes, 32 records", 32, 32, 32);
-    tell::calls(e, b"card 1's kind A:H 1 1;card 2's kind A:H 2 1;");
-    settle(b"96 bytes while 31 are held", 31, 32, 32);
-    settle(b"99 bytes", 33, 33, 32);
-    settle(b"93 bytes, 32 records", 32, 31, 32);
-    settle(b"96 bytes, 31 records", 32, 32, 31);
+pub(crate) fn settlements(rt: &impl Print) {
+    let e = settle(rt, b"96 bytes, 32 records", 32, 32, 32);
+    tell::calls(rt, e, b"card 1's kind A:H 1 1;card 2's kind A:H 2 1;");
+    settle(rt, b"96 bytes while 31 are held", 31, 32, 32);
+    settle(rt, b"99 bytes", 33, 33, 32);
+    settle(rt, b"93 bytes, 32 records", 32, 31, 32);
+    settle(rt, b"96 bytes, 31 records", 32, 32, 31);
 }

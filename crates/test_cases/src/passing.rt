@@ -13,19 +13,20 @@ fn open() -> Engine {
     opened.engine
 }
 
-fn settle(label: &[u8], engine: Engine, exchange: &[u8]) -> Engine
+fn settle(rt: &impl Print, label: &[u8], engine: Engine, exchange: &[u8]) -> Engine
     requires { length exchange.now ≤ 96 }
 {
     let p = free::proof(exchange);
     let size = exchange.len() * 4;
-    tell::settle(label, engine, exchange, &p[..size])
+    tell::settle(rt, label, engine, exchange, &p[..size])
 }
 
-pub(crate) fn orders() {
-    let holding = tell::calls(open(), b"an A for card 1:I 1 1 1;");
-    settle(b"gift after its receipt", holding, &[1, 1, 2, 2, 1, 3]);
-    let e = settle(b"gift before its receipt", holding, &[2, 1, 3, 1, 1, 2]);
+pub(crate) fn orders(rt: &impl Print) {
+    let holding = tell::calls(rt, open(), b"an A for card 1:I 1 1 1;");
+    settle(rt, b"gift after its receipt", holding, &[1, 1, 2, 2, 1, 3]);
+    let e = settle(rt, b"gift before its receipt", holding, &[2, 1, 3, 1, 1, 2]);
     tell::calls(
+        rt,
         e,
         b"card 1's kind A:H 1 1;\
           card 2's kind A:H 2 1;\
@@ -33,31 +34,39 @@ pub(crate) fn orders() {
     );
 }
 
-pub(crate) fn amounts() {
-    let holding = tell::calls(open(), b"an A for card 1:I 1 1 1;a B for card 4:I 4 2 1;");
+pub(crate) fn amounts(rt: &impl Print) {
+    let holding = tell::calls(
+        rt,
+        open(),
+        b"an A for card 1:I 1 1 1;a B for card 4:I 4 2 1;",
+    );
     settle(
+        rt,
         b"one receipt passed on twice",
         holding,
         &[1, 1, 2, 2, 1, 3, 2, 1, 3],
     );
-    settle(b"receipt of another kind", holding, &[4, 2, 2, 2, 1, 3]);
-    settle(b"receipt of another card", holding, &[1, 1, 3, 2, 1, 3]);
-    let more = tell::calls(holding, b"an A for card 2:I 2 1 1;");
+    settle(rt, b"receipt of another kind", holding, &[4, 2, 2, 2, 1, 3]);
+    settle(rt, b"receipt of another card", holding, &[1, 1, 3, 2, 1, 3]);
+    let more = tell::calls(rt, holding, b"an A for card 2:I 2 1 1;");
     settle(
+        rt,
         b"one receipt and one held, passed on",
         more,
         &[1, 1, 2, 2, 1, 3, 2, 1, 3],
     );
 }
 
-pub(crate) fn rings() {
+pub(crate) fn rings(rt: &impl Print) {
     let e = settle(
+        rt,
         b"round a ring in which nobody holds it",
         open(),
         &[1, 1, 2, 2, 1, 3, 3, 1, 1],
     );
-    tell::calls(e, b"card 1's kind A:H 1 1;card 2's kind A:H 2 1;");
+    tell::calls(rt, e, b"card 1's kind A:H 1 1;card 2's kind A:H 2 1;");
     settle(
+        rt,
         b"round the ring, and one gift more",
         e,
         &[1, 1, 2, 2, 1, 3, 3, 1, 1, 1, 1, 2],
@@ -73,20 +82,28 @@ fn holding(count: u32) -> Engine {
     Engine { holdings, ..e }
 }
 
-pub(crate) fn limits() {
+pub(crate) fn limits(rt: &impl Print) {
     let most = 1_000_000_000;
     settle(
+        rt,
         b"receipt of a card at the limit, passed on",
         holding(most),
         &[1, 1, 2, 2, 1, 3],
     );
-    settle(b"receipt of a card at the limit", holding(most), &[1, 1, 2]);
     settle(
+        rt,
+        b"receipt of a card at the limit",
+        holding(most),
+        &[1, 1, 2],
+    );
+    settle(
+        rt,
         b"receipt beyond 32 bits, passed on",
         holding(u32::MAX),
         &[1, 1, 2, 2, 1, 3],
     );
     settle(
+        rt,
         b"beyond 32 bits, and not covered",
         holding(u32::MAX),
         &[3, 1, 2],

@@ -13,23 +13,30 @@ pub(crate) fn open() -> Engine {
     opened.engine
 }
 
-fn tell(label: &[u8], reply: Reply) {
-    io::write_all(1, label);
-    io::write_all(1, b": ");
+// A write that fails shows in what is missing.
+fn tell(rt: &impl Print, label: &[u8], reply: Reply) {
+    let _ = rt.write_all(label);
+    let _ = rt.write_all(b": ");
     let mut out = [0; commands::ANSWER_SIZE];
     let count = commands::put_reply(reply, &mut out);
-    io::write_all(1, &out[..count]);
+    let _ = rt.write_all(&out[..count]);
 }
 
-pub(crate) fn settle(label: &[u8], engine: Engine, exchange: &[u8], proof: &[u8]) -> Engine {
+pub(crate) fn settle(
+    rt: &impl Print,
+    label: &[u8],
+    engine: Engine,
+    exchange: &[u8],
+    proof: &[u8],
+) -> Engine {
     let called = engine::settle(engine, exchange, proof);
     let reply = called.reply;
-    tell(label, reply);
+    tell(rt, label, reply);
     called.engine
 }
 
 // Makes the call of a command line and prints its answer; a settlement's line is passed over.
-fn call(label: &[u8], engine: Engine, line: &[u8]) -> Engine {
+fn call(rt: &impl Print, label: &[u8], engine: Engine, line: &[u8]) -> Engine {
     let called = match commands::read(line) {
         Command::Issue(card, kind, count) => engine::issue(engine, card, kind, count),
         Command::Redeem(card, kind, count) => engine::redeem(engine, card, kind, count),
@@ -37,12 +44,12 @@ fn call(label: &[u8], engine: Engine, line: &[u8]) -> Engine {
         _ => return engine,
     };
     let reply = called.reply;
-    tell(label, reply);
+    tell(rt, label, reply);
     called.engine
 }
 
 // The calls of a table, one after the other: a row is a label, `:`, a command line and `;`.
-pub(crate) fn calls(engine: Engine, table: &[u8]) -> Engine {
+pub(crate) fn calls(rt: &impl Print, engine: Engine, table: &[u8]) -> Engine {
     let mut next = engine;
     let mut at = 0;
     while at < table.len() {
@@ -52,7 +59,7 @@ pub(crate) fn calls(engine: Engine, table: &[u8]) -> Engine {
         if table.len() <= end {
             return next;
         }
-        next = call(&table[at..colon], next, &table[line..end]);
+        next = call(rt, &table[at..colon], next, &table[line..end]);
         at = end + 1;
     }
     next

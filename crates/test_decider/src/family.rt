@@ -182,14 +182,17 @@ fn total() -> Outcome {
     }
 }
 
+// A part of the line; a write that fails shows in what is missing.
+fn print(rt: &impl Print, number: u32, after: &[u8]) {
+    let _ = rt.print(number);
+    let _ = rt.write_all(after);
+}
+
 // One line with the counts; a disagreement between the two is a mistake in one of them.
-pub(crate) fn agrees() {
+pub(crate) fn agrees(rt: &impl Print) {
     let total = total();
-    io::write_all(1, b"family: ");
-    io::print_decimal(1, total.exchanges as u64);
-    io::write_all(1, b" exchanges, ");
-    io::print_decimal(1, total.fair as u64);
-    io::write_all(1, b" fair, ");
-    io::print_decimal(1, total.disagreements as u64);
-    io::write_all(1, b" disagreements\n");
+    let _ = rt.write_all(b"family: ");
+    print(rt, total.exchanges, b" exchanges, ");
+    print(rt, total.fair, b" fair, ");
+    print(rt, total.disagreements, b" disagreements\n");
 }

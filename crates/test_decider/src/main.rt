@@ -5,6 +5,6 @@
 mod fairness;
 mod family;
 
-fn main() {
-    family::agrees();
+fn main(rt: HostRuntime) {
+    family::agrees(&rt);
 }

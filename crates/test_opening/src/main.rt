@@ -8,33 +8,38 @@ mod texts;
 use answers::Answer;
 use rulebook::layout;
 
-fn print(before: &[u8], number: u64) {
-    io::write_all(1, before);
-    io::print_decimal(1, number);
+// A write that fails shows in what is missing.
+fn write(rt: &impl Print, bytes: &[u8]) {
+    let _ = rt.write_all(bytes);
+}
+
+fn print(rt: &impl Print, before: &[u8], number: u64) {
+    write(rt, before);
+    let _ = rt.print(number);
 }
 
 // Prints the label, the refusal's number and line or 0 0, and how many cards and rules there are.
-fn show(label: &[u8], text: &[u8]) {
+fn show(rt: &impl Print, label: &[u8], text: &[u8]) {
     let reading = rulebook::read(text);
     let answer = reading.answer;
     let tables = reading.tables;
-    io::write_all(1, label);
+    write(rt, label);
     match answer {
         Answer::Done => {
-            io::write_all(1, b": 0 0");
+            write(rt, b": 0 0");
         }
         Answer::Refused(number, line) => {
-            print(b": ", number as u64);
-            print(b" ", line as u64);
+            print(rt, b": ", number as u64);
+            print(rt, b" ", line as u64);
         }
     }
-    print(b", cards ", layout::card_count(&tables.cards) as u64);
-    print(b", rules ", layout::rule_count(&tables.rules) as u64);
-    io::write_all(1, b"\n");
+    print(rt, b", cards ", layout::card_count(&tables.cards) as u64);
+    print(rt, b", rules ", layout::rule_count(&tables.rules) as u64);
+    write(rt, b"\n");
 }
 
 // The texts of a table: a row is a label, `:`, a text and `;`.
-fn show_all(table: &[u8]) {
+fn show_all(rt: &impl Print, table: &[u8]) {
     let mut at = 0;
     while at < table.len() {
         let colon = ascii::find(table, at, b':');
@@ -43,13 +48,14 @@ fn show_all(table: &[u8]) {
         if table.len() <= end {
             return;
         }
-        show(&table[at..colon], &table[text..end]);
+        show(rt, &table[at..colon], &table[text..end]);
         at = end + 1;
     }
 }
 
-fn forms() {
+fn forms(rt: &impl Print) {
     show_all(
+        rt,
         b"empty text:;\
           one card:C 700012000019\n;\
           group and rule:C 700012000019\nG 1 1\nR 1 A a\n;\
@@ -71,8 +77,9 @@ fn forms() {
     );
 }
 
-fn numbers() {
+fn numbers(rt: &impl Print) {
     show_all(
+        rt,
         b"m of 0:C 700012000019\nG 1 0\n;\
           m of 00:C 700012000019\nG 1 00\n;\
           m of 01:C 700012000019\nG 1 01\n;\
@@ -90,8 +97,9 @@ fn numbers() {
     );
 }
 
-fn rules() {
+fn rules(rt: &impl Print) {
     show_all(
+        rt,
         b"kind P:C 700012000019\nR 1 P h\n;\
           kind Q:C 700012000019\nR 1 Q a\n;\
           variable i:C 700012000019\nR 1 A i\n;\
@@ -109,8 +117,9 @@ fn rules() {
     );
 }
 
-fn bytes() {
+fn bytes(rt: &impl Print) {
     show_all(
+        rt,
         b"NUL:C 700012000019\nG 1 1\0\n;\
           CR:C 700012000019\r\n;\
           tab:C\t700012000019\n;\
@@ -119,8 +128,9 @@ fn bytes() {
     );
 }
 
-fn cards() {
+fn cards(rt: &impl Print) {
     show_all(
+        rt,
         b"11 digits:C 70001200008\n;\
           12 digits:C 700012000001\n;\
           19 digits:C 7000120000000000008\n;\
@@ -131,8 +141,9 @@ fn cards() {
 }
 
 // Cards as they are printed.
-fn hyphens() {
+fn hyphens(rt: &impl Print) {
     show_all(
+        rt,
         b"three printed groups:C 7000-1200-0019\n;\
           one hyphen:C 7-00012000019\n;\
           one hyphen before the check digit:C 70001200001-9\n;\
@@ -171,19 +182,27 @@ fn hyphens() {
 }
 
 // The text of what is first, a piece so many times, and what is last.
-fn show_repeated(label: &[u8], first: &[u8], piece: &[u8], times: usize, last: &[u8]) {
+fn show_repeated(
+    rt: &impl Print,
+    label: &[u8],
+    first: &[u8],
+    piece: &[u8],
+    times: usize,
+    last: &[u8],
+) {
     let mut buffer = [0u8; 20_000];
     let begun = texts::put(&mut buffer, 0, first);
     let repeated = texts::repeat(&mut buffer, begun, piece, times);
     let end = texts::put(&mut buffer, repeated, last);
-    show(label, &buffer[..end]);
+    show(rt, label, &buffer[..end]);
 }
 
-fn long_lines() {
-    show_repeated(b"9,000 digits and hyphens", b"C 1", b"-2", 4499, b"3\n");
-    show_repeated(b"a hyphen after them", b"C 1", b"-2", 4499, b"-\n");
-    show_repeated(b"12,000 digits", b"C ", b"7000", 3000, b"\n");
+fn long_lines(rt: &impl Print) {
+    show_repeated(rt, b"9,000 digits and hyphens", b"C 1", b"-2", 4499, b"3\n");
+    show_repeated(rt, b"a hyphen after them", b"C 1", b"-2", 4499, b"-\n");
+    show_repeated(rt, b"12,000 digits", b"C ", b"7000", 3000, b"\n");
     show_repeated(
+        rt,
         b"16,384 bytes with a hyphen",
         b"C 700012-000019\n",
         b"G 1 1\n",
@@ -191,6 +210,7 @@ fn long_lines() {
         b"",
     );
     show_repeated(
+        rt,
         b"16,385 bytes by a hyphen",
         b"C 7000-12-000019\n",
         b"G 1 1\n",
@@ -200,28 +220,51 @@ fn long_lines() {
 }
 
 // The text of so many cards, a line so many times, and what is last.
-fn show_limit(label: &[u8], cards: u8, line: &[u8], times: usize, last: &[u8]) {
+fn show_limit(rt: &impl Print, label: &[u8], cards: u8, line: &[u8], times: usize, last: &[u8]) {
     let mut first = [0u8; 480];
     let declared = texts::cards(&mut first, cards);
-    show_repeated(label, &first[..declared], line, times, last);
+    show_repeated(rt, label, &first[..declared], line, times, last);
 }
 
-fn limits() {
-    show_limit(b"32 cards", 32, b"", 0, b"");
-    show_limit(b"33 cards", 32, b"C 1\n", 1, b"");
+fn limits(rt: &impl Print) {
+    show_limit(rt, b"32 cards", 32, b"", 0, b"");
+    show_limit(rt, b"33 cards", 32, b"C 1\n", 1, b"");
     show_limit(
+        rt,
         b"33rd card in printed groups",
         32,
         b"C 7000-1200-0019\n",
         1,
         b"",
     );
-    show_limit(b"33rd card with a doubled hyphen", 32, b"C 1--2\n", 1, b"");
-    show_limit(b"56 rules", 1, b"R 1 A a\n", 56, b"");
-    show_limit(b"57 rules", 1, b"R 1 A a\n", 57, b"");
-    show_limit(b"57th rule of no card", 1, b"R 1 A a\n", 56, b"R 2 A a\n");
-    show_limit(b"16,384 bytes", 2, b"G 1 1\n", 2723, b"R 1 A a\nR 1 A a\n");
     show_limit(
+        rt,
+        b"33rd card with a doubled hyphen",
+        32,
+        b"C 1--2\n",
+        1,
+        b"",
+    );
+    show_limit(rt, b"56 rules", 1, b"R 1 A a\n", 56, b"");
+    show_limit(rt, b"57 rules", 1, b"R 1 A a\n", 57, b"");
+    show_limit(
+        rt,
+        b"57th rule of no card",
+        1,
+        b"R 1 A a\n",
+        56,
+        b"R 2 A a\n",
+    );
+    show_limit(
+        rt,
+        b"16,384 bytes",
+        2,
+        b"G 1 1\n",
+        2723,
+        b"R 1 A a\nR 1 A a\n",
+    );
+    show_limit(
+        rt,
         b"16,385 bytes",
         2,
         b"G 1 1\n",
@@ -230,13 +273,13 @@ fn limits() {
     );
 }
 
-fn main() {
-    forms();
-    numbers();
-    rules();
-    bytes();
-    cards();
-    hyphens();
-    long_lines();
-    limits();
+fn main(rt: HostRuntime) {
+    forms(&rt);
+    numbers(&rt);
+    rules(&rt);
+    bytes(&rt);
+    cards(&rt);
+    hyphens(&rt);
+    long_lines(&rt);
+    limits(&rt);
 }

@@ -7,6 +7,12 @@ ghost use Rattle.std.specs.Prelude.{◌≡◌, length};
 ghost use Rattle.commands.specs.Dialects.{thawcroft};
 ghost use Rattle.session.specs.Blocks.{line_room};
 
+use std::env::{Env, FillError};
+use std::rt::Files;
+
+// One byte more than a path may have.
+const NAME_ROOM: usize = 4096;
+
 // One byte more than the longest line.
 const LINE_ROOM: usize = commands::THAWCROFT_LONGEST as usize + 1;
 
@@ -16,23 +22,26 @@ fn line_buffer() -> [u8; LINE_ROOM]
     [0; LINE_ROOM]
 }
 
-fn run(name: &[u8]) {
+fn run(rt: &(impl Files + Input + Print), name: &[u8]) {
     let mut buffer = line_buffer();
-    console::run(commands::thawcroft(), name, &mut buffer);
+    console::run(rt, commands::thawcroft(), name, &mut buffer);
+}
+
+// Whether the program has an argument with this number.
+fn has_arg(rt: &impl Env, number: usize) -> bool {
+    !matches!(rt.arg(number, &mut []), Err(FillError::NotPresent))
 }
 
 // An argument that is empty, or longer than a path may be, names no file.
-fn run_named() {
-    let mut name = io::buffer();
-    let size = os::arg(1, &mut name);
-    run(&name[..size]);
-}
-
-fn main() {
-    let count = os::arg_count();
-    match count {
-        0..=1 => run(b"book.txt"),
-        2 => run_named(),
-        _ => console::say_bad(),
+fn main(rt: HostRuntime) {
+    if has_arg(&rt, 2) {
+        console::say_bad(&rt);
+        return;
+    }
+    let mut name = [0; NAME_ROOM];
+    match rt.arg(1, &mut name) {
+        Ok(size) => run(&rt, &name[..size]),
+        Err(FillError::TooLong) => console::say_bad(&rt),
+        Err(FillError::NotPresent) => run(&rt, b"book.txt"),
     }
 }
