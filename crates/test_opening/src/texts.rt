@@ -1,11 +1,10 @@
 // Texts made of lines, put into a buffer one after the other, as far as there is room.
-ghost use Rattle.std.specs.Prelude.{◌≤◌, length};
-ghost use Rattle.io.specs.Counts.{IsPrefixLen};
+ghost use Rattle.std.specs.Prelude.{◌≡◌, ◌≤◌, length, take};
 
 // The bytes put at a place, and the place after them.
 pub(crate) fn put(buffer: &mut [u8], at: usize, bytes: &[u8]) -> usize
     requires { at ≤ length buffer.old }
-    ensures { IsPrefixLen result buffer.new }
+    ensures { (result ≤ length buffer.new) × (result ≡ length (take result buffer.new)) }
 {
     let mut next = at;
     let mut i = 0;
@@ -23,7 +22,7 @@ pub(crate) fn put(buffer: &mut [u8], at: usize, bytes: &[u8]) -> usize
 // The line put so many times.
 pub(crate) fn repeat(buffer: &mut [u8], at: usize, line: &[u8], times: usize) -> usize
     requires { at ≤ length buffer.old }
-    ensures { IsPrefixLen result buffer.new }
+    ensures { (result ≤ length buffer.new) × (result ≡ length (take result buffer.new)) }
 {
     let mut next = at;
     for i in 0..times {
@@ -35,7 +34,7 @@ pub(crate) fn repeat(buffer: &mut [u8], at: usize, line: &[u8], times: usize) ->
 // The line of a card: the digits of a number below 100 are where none is doubled, so that the check digit is what their sum lacks.
 fn card(buffer: &mut [u8], at: usize, number: u8) -> usize
     requires { at ≤ length buffer.old }
-    ensures { IsPrefixLen result buffer.new }
+    ensures { (result ≤ length buffer.new) × (result ≡ length (take result buffer.new)) }
 {
     let tens = number / 10 % 10;
     let ones = number % 10;
@@ -47,7 +46,7 @@ fn card(buffer: &mut [u8], at: usize, number: u8) -> usize
 
 // Cards with the numbers 0, 1, .., so many of them.
 pub(crate) fn cards(buffer: &mut [u8], count: u8) -> usize
-    ensures { IsPrefixLen result buffer.new }
+    ensures { (result ≤ length buffer.new) × (result ≡ length (take result buffer.new)) }
 {
     let mut next = 0;
     for i in 0..count {
