@@ -67,7 +67,7 @@ fn read_book(rt: &impl Files, name: &[u8], text: &mut [u8]) -> Text
     read_text(&mut file, text)
 }
 
-// Whether all of the bytes were written; none of them waits for more.
+// Whether all of the bytes were written: nothing is kept for a later write.
 fn write(rt: &impl Print, bytes: &[u8]) -> bool {
     rt.write_all(bytes).is_ok()
 }
