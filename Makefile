@@ -26,9 +26,10 @@ bench: lib
 
 # The till host's call for C: include/thawcroft.h and this archive.
 lib:
-	@mkdir -p target
-	@rt staticlib till >target/staticlib.log 2>&1 || { cat target/staticlib.log; exit 1; }
+	@mkdir -p target/staticlib
+	@(cd crates/till_c && rt lib) >target/staticlib.log 2>&1 || { cat target/staticlib.log; exit 1; }
+	@cp crates/till_c/out/libtill_c.a target/staticlib/libtill.a
 	@echo "target/staticlib/libtill.a: gcc -Iinclude HOST.c target/staticlib/libtill.a; nothing else to link"
 
 fmt:
-	@rt fmt
+	@for crate in crates/*/; do (cd "$$crate" && rt fmt) || exit 1; done

@@ -1,4 +1,5 @@
-// The till host's one call, for C: rule text, holdings, exchange and proof in, a number out; no state is kept between calls.
+// The till host's one call: rule text, holdings, exchange and proof in, a number out; no state is kept between calls. The crate till_c exports
+// it to C.
 
 #![tactic(auto)]
 
@@ -39,13 +40,7 @@ fn settle_over<'a>(
 }
 
 // 0, or the number of the first question that is answered no: 1 to 7, 24, 12 to 23. The holdings are rewritten only on 0.
-#[unsafe(no_mangle)]
-pub extern "C" fn thawcroft_settle(
-    text: &[u8],
-    holdings: &mut [u32],
-    exchange: &[u8],
-    proof: &[u8],
-) -> u32
+pub fn thawcroft_settle(text: &[u8], holdings: &mut [u32], exchange: &[u8], proof: &[u8]) -> u32
     ensures { Tills text.now holdings.old exchange.now proof.now result holdings.new }
 {
     let reading = rulebook::read(text);
