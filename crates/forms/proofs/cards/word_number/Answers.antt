@@ -17,7 +17,7 @@ bytes c = c.args.s.now
 turn : (c : After-put_digit-taken) → Taken (bytes c) (c.loop-i.i + 1) (c.loop-i.count + c.put_digit-taken.result) c.put_digit-taken.new.digits
 turn c = taken_more c.loop-i.invariant.1 c.put_digit-taken.result c.put_digit-taken.new.digits (search rules) c.put_digit-taken.ensures.0 c.put_digit-taken.ensures.1
 
--- ---- the needs
+-- ---- the goals
 pub loop-i-init : goal.loop-i-init
 loop-i-init c = (search rules, taken_none _, search rules, search rules)
 

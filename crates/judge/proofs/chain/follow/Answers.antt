@@ -1,5 +1,5 @@
 -- The loop keeps that what is left to answer is the whole answer (`Going`); what a record tells that meets its questions is
--- gathered once (`turn`), and the needs of the turn are answered from it.
+-- gathered once (`turn`), and the goals of the turn are answered from it.
 use borrow.Author.Rules.{rules}
 use native.Mathlib.Omega.{arith}
 use Prim.Native.Nat.{ℕ, ◌+◌, ◌*◌, ◌-◌, ◌≤◌, ◌<◌}

@@ -1,5 +1,5 @@
 -- The loop keeps that what is left to answer is the whole answer (`Going`); what a record tells that meets its questions is
--- gathered once (`turn`), and the needs of the turn are answered from it.
+-- gathered once (`turn`), and the goals of the turn are answered from it.
 use Prim.Native.Nat.{◌-◌, ◌≤◌}
 use Rattle.judge.proofs.Following.{Going}
 use Rattle.judge.proofs.chain.follow.Given as goal

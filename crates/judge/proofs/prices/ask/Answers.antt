@@ -19,17 +19,17 @@ compared : (c : After-same) → let a = c.args in
 compared c = rw (c.transfer_at.ensures ∙ here _ _ c.loop-j-test.true) at c.same.ensures.0
 
 -- the giver's first transfer is one of the exchange, or its end
-first-low : (c : After-first-1) → let a = c.args in
+first_low : (c : After-first-1) → let a = c.args in
     get_or a.firsts.now a.t.giver 0 ≤ transfer_count a.exchange.now
-first-low c = c.requires.2.low _ (search rules)
+first_low c = c.requires.2.low _ (search rules)
 
 pub overflow_cast-first : goal.overflow_cast-first
-overflow_cast-first c = omega (arith, first-low c, c.requires.0)
+overflow_cast-first c = omega (arith, first_low c, c.requires.0)
 
 pub loop-j-init : goal.loop-j-init
 loop-j-init c =
     let b : c.args.t.giver < 256 = search rules in
-    (first-low c, refl, gifts-before _ _ _ c.requires.2 b)
+    (first_low c, refl, gifts-before _ _ _ c.requires.2 b)
 
 pub overflow_add-counts : goal.overflow_add-counts
 overflow_add-counts c =

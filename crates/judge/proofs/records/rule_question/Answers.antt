@@ -9,13 +9,13 @@ use Rattle.judge.proofs.records.rule_question.Goals as goal
 use Rattle.judge.proofs.records.rule_question.Goals.{Else-not-all_payable, Else-not-cards_fit, Else-not-owner-claimed, Start, Then-not-owner-claimed}
 
 -- question 16's test, as the program asks it
-abbrev rightRule : Start → Bool
-rightRule s = let a = s.args in eqb (row_owner a.row.now) a.claimed.giver && eqb (row_kind a.row.now) a.claimed.kind
+abbrev right_rule : Start → Bool
+right_rule s = let a = s.args in eqb (row_owner a.row.now) a.claimed.giver && eqb (row_kind a.row.now) a.claimed.kind
 
-met16 : (c : Else-not-owner-claimed) → rightRule (goal.at.Else-not-owner-claimed c).Start ≡ true
+met16 : (c : Else-not-owner-claimed) → right_rule (goal.at.Else-not-owner-claimed c).Start ≡ true
 met16 c = rw (← c.owner.ensures, ← c.kind.ensures) (c.if-not-owner-claimed.false)
 
-unmet16 : (c : Then-not-owner-claimed) → rightRule (goal.at.Then-not-owner-claimed c).Start ≡ false
+unmet16 : (c : Then-not-owner-claimed) → right_rule (goal.at.Then-not-owner-claimed c).Start ≡ false
 unmet16 c = rw (← c.owner.ensures, ← c.kind.ensures) (c.if-not-owner-claimed.true)
 
 met17 : (c : Else-not-cards_fit) → let a = c.args in cards_fit (card_count a.cards.now) a.row.now a.rec.now a.claimed.receiver ≡ true

@@ -19,8 +19,8 @@ use Rattle.rulebook.proofs.cards.take.Goals.{After-is_card_number, Else-card_cou
 abbrev line_of : Else-number-eq0 → List ℕ
 line_of c = c.args.line.now
 
-abbrev card-of : Else-number-eq0 → List ℕ
-card-of c = card_digits (card_read (line_of c))
+abbrev card_of : Else-number-eq0 → List ℕ
+card_of c = card_digits (card_read (line_of c))
 
 -- the line has the form
 formed : (c : Else-number-eq0) → is_card_line (line_of c) ≡ true
@@ -31,25 +31,25 @@ room : (c : Else-card_count-ge-CARD_LIMIT) → card_count c.args.cards.now < car
 room c = omega (arith, c.if-card_count-ge-CARD_LIMIT.false, c.card_count.ensures)
 
 -- its number has the line's digits
-number : (c : Else-number-eq0) → c.card_number-number.result ≡ in_row (card-of c)
+number : (c : Else-number-eq0) → c.card_number-number.result ≡ in_row (card_of c)
 number c = c.card_number-number.ensures ∙ rw (formed c)
 
-asked : (c : After-is_card_number) → c.is_card_number.result ≡ is_card_number (card-of (goal.at.After-is_card_number c).Else-number-eq0)
-asked c = c.is_card_number.ensures ∙ ap is_number_in (number (goal.at.After-is_card_number c).Else-number-eq0) ∙ number_is (card-of (goal.at.After-is_card_number c).Else-number-eq0)
+asked : (c : After-is_card_number) → c.is_card_number.result ≡ is_card_number (card_of (goal.at.After-is_card_number c).Else-number-eq0)
+asked c = c.is_card_number.ensures ∙ ap is_number_in (number (goal.at.After-is_card_number c).Else-number-eq0) ∙ number_is (card_of (goal.at.After-is_card_number c).Else-number-eq0)
 
-numbered : (c : Else-not-is_card_number) → is_card_number (card-of (goal.at.Else-not-is_card_number c).Else-number-eq0) ≡ true
+numbered : (c : Else-not-is_card_number) → is_card_number (card_of (goal.at.Else-not-is_card_number c).Else-number-eq0) ≡ true
 numbered c = sym (asked (goal.at.Else-not-is_card_number c).After-is_card_number) ∙ c.if-not-is_card_number.false
 
-few : (c : Else-not-is_card_number) → length (card-of (goal.at.Else-not-is_card_number c).Else-number-eq0) ≤ most_digits
-few c = (number_size (card-of (goal.at.Else-not-is_card_number c).Else-number-eq0) (numbered c)).1
+few : (c : Else-not-is_card_number) → length (card_of (goal.at.Else-not-is_card_number c).Else-number-eq0) ≤ most_digits
+few c = (number_size (card_of (goal.at.Else-not-is_card_number c).Else-number-eq0) (numbered c)).1
 
-digits : (c : Else-not-is_card_number) → digits_in c.card_number-number.result ≡ card-of (goal.at.Else-not-is_card_number c).Else-number-eq0
-digits c = ap digits_in (number (goal.at.Else-not-is_card_number c).Else-number-eq0) ∙ in_row_lem (card-of (goal.at.Else-not-is_card_number c).Else-number-eq0) (few c)
+digits : (c : Else-not-is_card_number) → digits_in c.card_number-number.result ≡ card_of (goal.at.Else-not-is_card_number c).Else-number-eq0
+digits c = ap digits_in (number (goal.at.Else-not-is_card_number c).Else-number-eq0) ∙ in_row_lem (card_of (goal.at.Else-not-is_card_number c).Else-number-eq0) (few c)
 
 count : (c : Else-not-is_card_number) → c.card_number-number.result.count ≤ most_digits
 count c = rw (number (goal.at.Else-not-is_card_number c).Else-number-eq0) (few c)
 
--- ---- the needs
+-- ---- the goals
 pub returns-then-number-eq0 : goal.returns-then-number-eq0
 returns-then-number-eq0 c = card_no_form (no_card-line _ (sym (ap (λ n. n.count) c.card_number-number.ensures) ∙ c.if-number-eq0.true))
 

@@ -20,8 +20,8 @@ formed c = sym c.is_group_line.ensures ∙ c.if-not-is_group_line.false
 above : (c : Else-card_count-m) → number_at c.args.line.now 4 ≤ card_count c.args.cards.now
 above c = omega (arith, c.number_at-m.ensures, c.card_count.ensures, c.if-card_count-m.false)
 
-group-is : (c : After-group) → c.group.result ≡ group_of (get_or c.args.line.now 2 0)
-group-is c = c.group.ensures ∙ ap group_of c.byte.ensures
+group_is : (c : After-group) → c.group.result ≡ group_of (get_or c.args.line.now 2 0)
+group_is c = c.group.ensures ∙ ap group_of c.byte.ensures
 
 pub returns-then-not-is_group_line : goal.returns-then-not-is_group_line
 returns-then-not-is_group_line c = group_no_form (sym c.is_group_line.ensures ∙ c.if-not-is_group_line.true)
@@ -32,11 +32,11 @@ returns-then-card_count-m c = group-not_above (formed (goal.at.returns-then-card
 pub add_member-requires : goal.add_member-requires
 add_member-requires c =
     let g = grouped _ (formed (goal.at.add_member-requires c).Else-not-is_group_line) in
-    let e = group-is c in
+    let e = group_is c in
     let l = c.number_at-m.ensures in
     let m = above (goal.at.add_member-requires c).Else-card_count-m in
     let n = count_small c.args.cards.now in
     (search rules, (omega arith, omega arith), (omega arith, omega arith))
 
 pub returns : goal.returns
-returns c = group-taken (formed (goal.at.returns c).Else-not-is_group_line) (above (goal.at.returns c).Else-card_count-m) (rw (group-is (goal.at.returns c).After-group, c.number_at-m.ensures) at c.add_member.ensures)
+returns c = group-taken (formed (goal.at.returns c).Else-not-is_group_line) (above (goal.at.returns c).Else-card_count-m) (rw (group_is (goal.at.returns c).After-group, c.number_at-m.ensures) at c.add_member.ensures)
