@@ -255,6 +255,9 @@ fn limits(rt: &impl Print) {
         56,
         b"R 2 A a\n",
     );
+}
+
+fn sizes(rt: &impl Print) {
     show_limit(
         rt,
         b"16,384 bytes",
@@ -282,4 +285,5 @@ fn main(rt: HostRuntime) {
     hyphens(&rt);
     long_lines(&rt);
     limits(&rt);
+    sizes(&rt);
 }
