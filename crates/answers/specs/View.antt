@@ -1,21 +1,55 @@
 -- The model's answer that an answer of the program is: document 01's number and place, or what is told.
-use Rattle.std.specs.Prelude.{ℕ}
+use Rattle.std.specs.Prelude.{ℕ, Result, Ok, Err}
 use Rattle.model.specs.Questions as model
 use Rattle.answers.specs.declared.Answer.{Answer}
 use Rattle.answers.specs.declared.Answer.TheVariants as answer
-use Rattle.answers.specs.declared.Reply.{Reply}
-use Rattle.answers.specs.declared.Reply.TheVariants as reply
+use Rattle.answers.specs.declared.Reason.{Reason}
+use Rattle.answers.specs.declared.Reason.TheVariants as reason
+use Rattle.answers.specs.declared.Refusal.{Refusal}
+use Rattle.answers.specs.declared.Told.{Told}
+use Rattle.answers.specs.declared.Told.TheVariants as told
+
+-- document 01's number of each reason
+abbrev pub number_of : Reason → ℕ
+number_of reason.TextTooLong = 1
+number_of reason.NoForm = 2
+number_of reason.TooManyCards = 3
+number_of reason.BadCardNumber = 4
+number_of reason.CardRepeated = 5
+number_of reason.CardNotAbove = 6
+number_of reason.TooManyRules = 7
+number_of reason.CardUndeclared = 8
+number_of reason.KindUnknown = 9
+number_of reason.SumExceeded = 10
+number_of reason.HoldingShort = 11
+number_of reason.ExchangeSize = 12
+number_of reason.BadTransfer = 13
+number_of reason.ProofSize = 14
+number_of reason.BadClaim = 15
+number_of reason.WrongRule = 16
+number_of reason.BadCards = 17
+number_of reason.BadPrice = 18
+number_of reason.ConditionUnmet = 19
+number_of reason.BadLink = 20
+number_of reason.PriceUnpaid = 21
+number_of reason.NotCovered = 22
+number_of reason.HoldingExceeded = 23
+number_of reason.BadHoldings = 24
 
 -- of an opening; `told` is what it tells where it is not refused
 abbrev pub answer_of : {A : Type 0} → A → Answer → model.Answer A
 answer_of told answer.Done = model.ok told
 answer_of told (answer.Refused number place) = model.refused number place
 
+-- what a call tells
+abbrev pub told_of : Told → model.Told
+told_of told.Done = model.done
+told_of (told.Holding count) = model.holding count
+
 -- of a call
-abbrev pub reply_of : Reply → model.Reply
-reply_of reply.Done = model.ok model.done
-reply_of (reply.Holding count) = model.ok (model.holding count)
-reply_of (reply.Refused number place) = model.refused number place
+abbrev pub reply_of : Result Told Refusal → model.Reply
+reply_of (Ok t) = model.ok (told_of t)
+reply_of (Err r) = model.refused (number_of r.reason) r.place
 
 -- "0 or a refusal number, without place"
 abbrev pub refusal_number : model.Reply → ℕ
