@@ -13,7 +13,7 @@ mod replies;
 pub use dialects::{RINGSWAP_LONGEST, THAWCROFT_LONGEST, read_in, ringswap, thawcroft};
 pub use hexadecimal::unhex;
 pub use lines::read;
-pub use replies::{put_bad, put_book, put_reply};
+pub use replies::{put_bad, put_book, put_refused, put_reply};
 
 // No answer is longer.
 pub const ANSWER_SIZE: usize = 32;
