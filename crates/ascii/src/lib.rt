@@ -2,26 +2,24 @@
 
 #![tactic(auto)]
 
-ghost use Rattle.std.specs.Prelude.{◌≡◌, ◌+◌, ◌≤◌, min, max, length, get_or, drop};
+ghost use Rattle.std.specs.Prelude.{◌≡◌, ◌+◌, ◌≤◌, if◌then◌else◌, min, max, length, get_or, drop};
 ghost use Rattle.model.specs.Lists.{until};
-ghost use Rattle.model.specs.Reader.{digit_of};
-
-const NO_DIGIT: u8 = 10;
+ghost use Rattle.model.specs.Reader.{digit_of, is_digit};
 
 // A place past the end reads as the byte 0, which is in no form, so that a reader asks for no length first.
 pub fn byte(text: &[u8], at: usize) -> u8
     ensures { result ≡ get_or text.now at 0 }
 {
-    if at < text.len() { text[at] } else { 0 }
+    text.get(at).copied().unwrap_or(0)
 }
 
-// A decimal digit's value, 0 to 9, or NO_DIGIT.
-pub fn digit(x: u8) -> u8
-    ensures { (result ≡ digit_of x) × (result ≤ 10) }
+// A decimal digit's value.
+pub fn digit(x: u8) -> Option<u8>
+    ensures { result ≡ (if is_digit x then Some (digit_of x) else None) }
 {
     match x {
-        b'0'..=b'9' => x - b'0',
-        _ => NO_DIGIT,
+        b'0'..=b'9' => Some(x - b'0'),
+        _ => None,
     }
 }
 

@@ -30,10 +30,9 @@ fn put_digit(digits: &mut [u8; 19], at: usize, x: u8) -> usize
     requires { length digits.old ≡ most_digits }
     ensures { (result ≡ one_if (is_digit x)) × (digits.new ≡ cond (is_digit x) (set digits.old at (digit_of x)) digits.old) }
 {
-    let d = ascii::digit(x);
-    if 9 < d {
+    let Some(d) = ascii::digit(x) else {
         return 0;
-    }
+    };
     if at < MOST_DIGITS {
         digits[at] = d;
     }

@@ -2,8 +2,8 @@
 
 #![tactic(auto)]
 
-ghost use Rattle.std.specs.Prelude.{◌≡◌, ◌≤◌};
-ghost use Rattle.model.specs.Reader.{kind_of, variable_of, name_of, group_of, width_of, number_of, number_width, number_at};
+ghost use Rattle.std.specs.Prelude.{◌≡◌, ◌+◌, ◌≤◌, get_or};
+ghost use Rattle.model.specs.Reader.{digit_of, kind_of, variable_of, name_of, group_of, width_of, number_of, number_width, number_at};
 
 // Kinds are numbered from 1.
 const BEFORE_A: u8 = b'A' - 1;
@@ -71,22 +71,26 @@ fn number(d: u8, e: u8) -> u8
     if e <= 9 { d * 10 + e } else { d }
 }
 
+// A digit's value at a place, or 10.
+fn digit_at(line: &[u8], at: usize) -> u8
+    ensures { (result ≡ digit_of (get_or line.now at 0)) × (result ≤ 10) }
+{
+    match ascii::digit(ascii::byte(line, at)) {
+        Some(d) => d,
+        None => 10,
+    }
+}
+
 // The bytes of m at a place: 1 or 2, or 0 where there is no m.
 pub fn number_width(line: &[u8], at: u8) -> usize
     ensures { (result ≡ number_width line.now at) × (result ≤ 2) }
 {
-    width(
-        ascii::digit(ascii::byte(line, at as usize)),
-        ascii::digit(ascii::byte(line, at as usize + 1)),
-    )
+    width(digit_at(line, at as usize), digit_at(line, at as usize + 1))
 }
 
 // The number m at a place that has one.
 pub fn number_at(line: &[u8], at: u8) -> u8
     ensures { result ≡ number_at line.now at }
 {
-    number(
-        ascii::digit(ascii::byte(line, at as usize)),
-        ascii::digit(ascii::byte(line, at as usize + 1)),
-    )
+    number(digit_at(line, at as usize), digit_at(line, at as usize + 1))
 }
