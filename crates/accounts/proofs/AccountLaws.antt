@@ -6,7 +6,9 @@ use Prim.Native.Nat.{ℕ, suc, ◌+◌, ◌-◌, ◌*◌, ◌≤◌, ◌<◌, mi
 use native.Mathlib.Numerals.{add-one}
 use native.Mathlib.Omega.{arith}
 use lib.Dec.{eqb, leb, eqb→eq}
-use lib.ListN.{length, get_or, set, length-set}
+use lib.ListN.{length, get_or, set, length-set, drop}
+use Rattle.std.proofs.lemmas.List.{length-append, length-drop}
+use Rattle.accounts.proofs.Chunks.{chunk_at, chunk_rest}
 use borrow.Author.Tests.{le-leb, lt-leb}
 use Rattle.model.specs.Limits.{card_limit, kind_count, sum_limit, holding_count, number_most}
 use Rattle.model.specs.Lists.{within}
@@ -19,73 +21,84 @@ use Rattle.model.proofs.Tests.{eq-T, never_true, eqb_same, within-true, true-wit
 use Rattle.model.proofs.Sums.{sum_same, sum_zero, sum_part}
 use Rattle.accounts.specs.Answered.{Answered, Declares, AnsweredFor}
 use Rattle.accounts.specs.inner.Ranged.{Ranged}
-use Rattle.accounts.specs.inner.Refusal.{account_refusal}
-use Rattle.answers.specs.View.{reply_of}
-use Rattle.answers.specs.declared.Reply.{Reply}
-use Rattle.answers.specs.declared.Reply.TheVariants.{Done, Holding, Refused}
+use Rattle.accounts.specs.inner.Refusal.{account_answer}
+use Rattle.answers.specs.View.{number_of, reply_of}
+use Rattle.answers.specs.declared.Reason.{Reason}
+use Rattle.answers.specs.declared.Reason.TheVariants.{CardUndeclared, KindUnknown, SumExceeded, HoldingShort}
+use Rattle.answers.specs.declared.Refusal.{Refusal}
+use Rattle.answers.specs.declared.Told.{Told}
+use Rattle.answers.specs.declared.Told.TheVariants.{Done, Holding}
+use Rattle.std.specs.Prelude.{Result, Ok, Err}
 use Rattle.accounts.specs.View.{place_of, state_from}
 use Rattle.accounts.proofs.HoldingPlaces.{held_at, held-set}
 
 -- ---- questions 8 and 9
 
 module _ (n c k : ℕ) where
-  pub undeclared : (1 ≤ c → c ≤ min n card_limit → ⊥) → 8 ≡ account_refusal n c k
-  unfolding account_refusal
+  pub undeclared : (1 ≤ c → c ≤ min n card_limit → ⊥) → Err CardUndeclared ≡ account_answer n c k
+  unfolding account_answer
   undeclared f = rw (never_true (within c (min n card_limit)) (λ e. let w = within-true c (min n card_limit) e in f w.0 w.1))
 
-  pub unknown : 1 ≤ c → c ≤ min n card_limit → (1 ≤ k → k ≤ kind_count → ⊥) → 9 ≡ account_refusal n c k
-  unfolding account_refusal
+  pub unknown : 1 ≤ c → c ≤ min n card_limit → (1 ≤ k → k ≤ kind_count → ⊥) → Err KindUnknown ≡ account_answer n c k
+  unfolding account_answer
   unknown l m f = rw (true-within c (min n card_limit) l m, never_true (within k kind_count) (λ e. let w = within-true k kind_count e in f w.0 w.1))
 
-  pub met : 1 ≤ c → c ≤ min n card_limit → 1 ≤ k → k ≤ kind_count → 0 ≡ account_refusal n c k
-  unfolding account_refusal
+  pub met : 1 ≤ c → c ≤ min n card_limit → 1 ≤ k → k ≤ kind_count → Ok tt ≡ account_answer n c k
+  unfolding account_answer
   met l m p q = rw (true-within c (min n card_limit) l m, true-within k kind_count p q)
 
 -- a card of the engine and a kind
-pub record Account (n c k : ℕ) : Type 0 where
+pub record Known (n c k : ℕ) : Type 0 where
   pub ranged : Ranged c k
   pub declared : within c (min n card_limit) ≡ true
   pub kind : within k kind_count ≡ true
 
-pub account_met : (n c k q : ℕ) → q ≡ account_refusal n c k → q ≡ 0 → Account n c k
-unfolding account_refusal
-account_met n c k q e z = go (within c (min n card_limit)) (within k kind_count) refl refl (sym e ∙ z)
+-- what the two tests x and y make of questions 8 and 9
+abbrev answer_by : Bool → Bool → Result (Unit {0}) Reason
+answer_by x y = cond x (cond y (Ok tt) (Err KindUnknown)) (Err CardUndeclared)
+
+pub account_met : (n c k : ℕ) (u : Unit {0}) → Ok u ≡ account_answer n c k → Known n c k
+unfolding account_answer
+account_met n c k u e = go (within c (min n card_limit)) (within k kind_count) refl refl e
   where
-    go : (x y : Bool) → within c (min n card_limit) ≡ x → within k kind_count ≡ y → ◌≡◌ {A = ℕ} (cond x (cond y 0 9) 8) 0 → Account n c k
+    go : (x y : Bool) → within c (min n card_limit) ≡ x → within k kind_count ≡ y → Ok u ≡ answer_by x y → Known n c k
     go true true f g h =
         let p = within-true c (min n card_limit) f in
         let r = within-true k kind_count g in
         record { ranged = record { c_low = p.0; c_high = omega arith; k_low = r.0; k_high = r.1 }; declared = f; kind = g }
-    go true false f g h = absurd (omega arith)
-    go false y f g h = absurd (omega arith)
+    go true false f g h = cc
+    go false y f g h = cc
 
 module _ (n : ℕ) (b : Book) (few : Declares n b) where
   declared-is : (c : ℕ) → declared b c ≡ within c (min n card_limit)
   declared-is c = ap (within c) few
 
   module _ (c k : ℕ) (qs : List Question) (r : model.Reply) where
-    account_refuses : (q : ℕ) → q ≡ account_refusal n c k → (q ≡ 0 → ⊥) → in_order (account_questions b c k ++ qs) 0 r ≡ model.refused q 0
-    unfolding account_refusal
-    account_refuses q f z = rw (declared-is c, f) (go (within c (min n card_limit)) (within k kind_count) (λ h. z (f ∙ h)))
+    account_refuses : (why : Reason) → Err why ≡ account_answer n c k → in_order (account_questions b c k ++ qs) 0 r ≡ model.refused (number_of why) 0
+    unfolding account_answer
+    account_refuses why f = rw (declared-is c) (go (within c (min n card_limit)) (within k kind_count) f)
       where
-        go : (x y : Bool) → (◌≡◌ {A = ℕ} (cond x (cond y 0 9) 8) 0 → ⊥) → cond x (cond y (in_order qs 0 r) (model.refused 9 0)) (model.refused 8 0) ≡ model.refused (cond x (cond y 0 9) 8) 0
-        go true true z = absurd (z refl)
-        go true false z = refl
-        go false y z = refl
+        go : (x y : Bool) → Err why ≡ answer_by x y → cond x (cond y (in_order qs 0 r) (model.refused 9 0)) (model.refused 8 0) ≡ model.refused (number_of why) 0
+        go true true h = cc
+        go true false h = let e : why ≡ KindUnknown = cc in rw e
+        go false y h = let e : why ≡ CardUndeclared = cc in rw e
 
-    account_passes : Account n c k → in_order (account_questions b c k ++ qs) 0 r ≡ in_order qs 0 r
+    account_passes : Known n c k → in_order (account_questions b c k ++ qs) 0 r ≡ in_order qs 0 r
     account_passes a = rw (declared-is c, a.declared, a.kind)
 
 -- ---- what a call leaves
 
+abbrev pub without_place : Reason → Refusal
+without_place why = record { reason = why; place = 0 }
+
 module _ (b : Book) (h : List ℕ) (call : Call) where
   -- a refused call leaves the holdings as they were
-  refuses : (q i : ℕ) → reply_to b (state_from h) call ≡ model.refused q i → Answered b h call (Refused q i) h
+  refuses : (why : Reason) → reply_to b (state_from h) call ≡ model.refused (number_of why) 0 → Answered b h call (Err (without_place why)) h
   unfolding after
-  refuses q i f = record { answers = sym f; state = rw f; size = refl; refused = λ k. refl }
+  refuses why f = record { answers = sym f; state = rw f; size = refl; refused = λ k. refl }
 
   -- a call that is not refused leaves those that it makes
-  leaves : (t : model.Told) (r : Reply) (h' : List ℕ) → reply_of r ≡ model.ok t → reply_to b (state_from h) call ≡ model.ok t
+  leaves : (t : model.Told) (r : Result Told Refusal) (h' : List ℕ) → reply_of r ≡ model.ok t → reply_to b (state_from h) call ≡ model.ok t
       → ((d j : ℕ) → (state_from h').held d j ≡ (changed (state_from h) call).held d j) → length h' ≡ length h → Answered b h call r h'
   unfolding after
   leaves t r h' e f s l = record {
@@ -118,62 +131,62 @@ module _ (n : ℕ) (h : List ℕ) (c k : ℕ) where
   abbrev holding_question : ℕ → List Question
   holding_question m = (11 unless leb m ((state_from h).held c k)) ∷ []
 
-  module _ (q : ℕ) (f : q ≡ account_refusal n c k) (z : q ≡ 0 → ⊥) where
-    pub issue_unknown : (m : ℕ) → AnsweredFor n h (issue c k m) (Refused q 0) h
+  module _ (why : Reason) (f : Err why ≡ account_answer n c k) where
+    pub issue_unknown : (m : ℕ) → AnsweredFor n h (issue c k m) (Err (without_place why)) h
     unfolding reply_to
-    issue_unknown m b l = refuses b h (issue c k m) q 0 (account_refuses n b l c k (sum_question m) (model.ok model.done) q f z)
+    issue_unknown m b l = refuses b h (issue c k m) why (account_refuses n b l c k (sum_question m) (model.ok model.done) why f)
 
-    pub redeem_unknown : (m : ℕ) → AnsweredFor n h (redeem c k m) (Refused q 0) h
+    pub redeem_unknown : (m : ℕ) → AnsweredFor n h (redeem c k m) (Err (without_place why)) h
     unfolding reply_to
-    redeem_unknown m b l = refuses b h (redeem c k m) q 0 (account_refuses n b l c k (holding_question m) (model.ok model.done) q f z)
+    redeem_unknown m b l = refuses b h (redeem c k m) why (account_refuses n b l c k (holding_question m) (model.ok model.done) why f)
 
-    pub query_unknown : AnsweredFor n h (query c k) (Refused q 0) h
+    pub query_unknown : AnsweredFor n h (query c k) (Err (without_place why)) h
     unfolding reply_to
-    query_unknown b l = refuses b h (query c k) q 0 (account_refuses n b l c k [] (model.ok (model.holding ((state_from h).held c k))) q f z)
+    query_unknown b l = refuses b h (query c k) why (account_refuses n b l c k [] (model.ok (model.holding ((state_from h).held c k))) why f)
 
-  module _ (a : Account n c k) where
+  module _ (a : Known n c k) where
     here : (state_from h).held c k ≡ get_or h (place_of c k) 0
     here = held_at h c k a.ranged
 
-    pub query_told : AnsweredFor n h (query c k) (Holding (get_or h (place_of c k) 0)) h
+    pub query_told : AnsweredFor n h (query c k) (Ok (Holding (get_or h (place_of c k) 0))) h
     unfolding reply_to
     query_told b l =
-        leaves b h (query c k) (model.holding ((state_from h).held c k)) (Holding (get_or h (place_of c k) 0)) h
+        leaves b h (query c k) (model.holding ((state_from h).held c k)) (Ok (Holding (get_or h (place_of c k) 0))) h
         (ap (λ (x : ℕ). model.ok (model.holding x)) (sym here))
         (account_passes n b l c k [] (model.ok (model.holding ((state_from h).held c k))) a)
         (λ d j. refl) refl
 
     module _ (m : ℕ) where
-      pub issue_exceeds : sum_limit < total (state_from h) k + m → AnsweredFor n h (issue c k m) (Refused 10 0) h
+      pub issue_exceeds : sum_limit < total (state_from h) k + m → AnsweredFor n h (issue c k m) (Err (without_place SumExceeded)) h
       unfolding reply_to
       issue_exceeds o b l =
-          refuses b h (issue c k m) 10 0
+          refuses b h (issue c k m) SumExceeded
           (account_passes n b l c k (sum_question m) (model.ok model.done) a ∙ rw (lt-leb (total (state_from h) k + m) sum_limit o))
 
-      pub redeem-short : get_or h (place_of c k) 0 < m → AnsweredFor n h (redeem c k m) (Refused 11 0) h
+      pub redeem-short : get_or h (place_of c k) 0 < m → AnsweredFor n h (redeem c k m) (Err (without_place HoldingShort)) h
       unfolding reply_to
       redeem-short o b l =
-          refuses b h (redeem c k m) 11 0
+          refuses b h (redeem c k m) HoldingShort
           (account_passes n b l c k (holding_question m) (model.ok model.done) a ∙ rw (here, lt-leb m (get_or h (place_of c k) 0) o))
 
       module _ (long : length h ≡ holding_count) where
         -- the holding there becomes v, and the call makes just that of it
         stored : (b : Book) (call : Call) (v : ℕ) → reply_to b (state_from h) call ≡ model.ok model.done → v ≡ (changed (state_from h) call).held c k
             → ((d j : ℕ) → (eqb c d && eqb k j) ≡ false → (state_from h).held d j ≡ (changed (state_from h) call).held d j)
-            → Answered b h call Done (set h (place_of c k) v)
+            → Answered b h call (Ok Done) (set h (place_of c k) v)
         stored b call v f e g =
-            leaves b h call model.done Done (set h (place_of c k) v) refl f
+            leaves b h call model.done (Ok Done) (set h (place_of c k) v) refl f
             (λ d j. held-set h c k v long a.ranged d j ∙ at_one (state_from h).held (changed (state_from h) call).held c k v e g d j)
             (length-set h (place_of c k) v)
 
-        pub issue-done : total (state_from h) k + m ≤ sum_limit → AnsweredFor n h (issue c k m) Done (set h (place_of c k) (get_or h (place_of c k) 0 + m))
+        pub issue-done : total (state_from h) k + m ≤ sum_limit → AnsweredFor n h (issue c k m) (Ok Done) (set h (place_of c k) (get_or h (place_of c k) 0 + m))
         unfolding reply_to
         issue-done o b l =
             stored b (issue c k m) (get_or h (place_of c k) 0 + m)
             (account_passes n b l c k (sum_question m) (model.ok model.done) a ∙ rw (le-leb (total (state_from h) k + m) sum_limit o))
             (omega (arith, here, amount_here c k m)) (λ x y e. omega (arith, amount-elsewhere c k m x y e))
 
-        pub redeem-done : m ≤ get_or h (place_of c k) 0 → AnsweredFor n h (redeem c k m) Done (set h (place_of c k) (get_or h (place_of c k) 0 - m))
+        pub redeem-done : m ≤ get_or h (place_of c k) 0 → AnsweredFor n h (redeem c k m) (Ok Done) (set h (place_of c k) (get_or h (place_of c k) 0 - m))
         unfolding reply_to
         redeem-done o b l =
             stored b (redeem c k m) (get_or h (place_of c k) 0 - m)
@@ -203,6 +216,19 @@ sum_more h k sum i w s l p q e m =
       is = rw add-one (rw (x, at, ← e) (omega (arith, s.is)));
       small = omega (arith, s.small);
     }
+
+-- one row more: the 16 holdings of the next card
+module _ (h row rest : List ℕ) (n : ℕ) (cut : drop (kind_count * n) h ≡ row ++ rest) (whole : length row ≡ kind_count) where
+  pub rows_left : rest ≡ drop (kind_count * (n + 1)) h
+  rows_left = chunk_rest h row rest (kind_count * n) cut ∙ ap (λ (i : ℕ). drop i h) (omega arith)
+
+  pub sum_row : (k sum w : ℕ) → length h ≡ holding_count → ((i : ℕ) → get_or h i 0 < 4294967296) → SumTo h k sum n → 1 ≤ k → k ≤ kind_count
+      → w ≡ get_or row (k - 1) 0 → SumTo h k (sum + w) (n + 1)
+  sum_row k sum w long fits s p q e =
+      let at : kind_count * n + (k - 1) ≡ n * kind_count + (k - 1) = omega arith in
+      let here = e ∙ chunk_at h row rest (kind_count * n) cut (k - 1) (omega arith) ∙ ap (λ (i : ℕ). get_or h i 0) at in
+      let more : n < card_limit = omega (arith, length-append row rest, length-drop (kind_count * n) h, ap (length {A = ℕ}) cut) in
+      sum_more h k sum n w s more p q here (rw here (fits (n * kind_count + (k - 1))))
 
 -- a number that is no kind
 pub sum_nothing : (h : List ℕ) (k : ℕ) → (1 ≤ k → k ≤ kind_count → ⊥) → (0 ≡ total (state_from h) k) × (0 < 1099511627776)

@@ -1,3 +1,4 @@
 pub mod HoldingPlaces
 pub mod HoldingNumbers
+pub mod Chunks
 pub mod AccountLaws

@@ -1,133 +1,104 @@
 // Issuing, redeeming and the holding query over the 512 holdings: questions 8 to 11.
 //
-// The holdings are lent and changed in place, so that a call copies none; a refused call changes none. A store goes through a slice of
-// them, since a proof knows the length of a slice that is made of an array, and not that of a lent array.
+// The holdings are lent and changed in place, so that a call copies none; a refused call changes none.
 
 #![tactic(auto)]
 
-ghost use Rattle.std.specs.Prelude.{◌≡◌, ◌<◌, max};
+ghost use Rattle.std.specs.Prelude.{◌≡◌, ◌*◌, ◌<◌, min};
+ghost use Rattle.model.specs.Limits.{card_limit, kind_count};
 ghost use Rattle.model.specs.Holdings.{total};
 ghost use Rattle.model.specs.Calls.{issue, redeem, query};
 ghost use Rattle.accounts.specs.View.{place_of, state_from};
 ghost use Rattle.accounts.specs.Answered.{AnsweredFor};
-ghost use Rattle.accounts.specs.inner.Refusal.{account_refusal};
+ghost use Rattle.accounts.specs.inner.Refusal.{account_answer};
 
-use answers::Reply;
-
-const CARD_LIMIT: u32 = limits::CARD_LIMIT as u32;
+use answers::{Reason, Refusal, Reply, Told};
 
 const KIND_COUNT: u32 = limits::KIND_COUNT as u32;
-
-const CARDS: usize = limits::CARD_LIMIT as usize;
 
 const KINDS: usize = limits::KIND_COUNT as usize;
 
 const SUM_LIMIT: u64 = limits::SUM_LIMIT as u64;
 
-// The first of questions 8 and 9 that is answered no, or 0.
-fn account(declared: u8, card: u32, kind: u32) -> u8
-    ensures { result ≡ account_refusal declared card kind }
-{
-    if card < 1 {
-        return answers::CARD_UNDECLARED;
-    }
-    if CARD_LIMIT < card {
-        return answers::CARD_UNDECLARED;
-    }
-    if (declared as u32) < card {
-        return answers::CARD_UNDECLARED;
-    }
-    if kind < 1 {
-        return answers::KIND_UNKNOWN;
-    }
-    if KIND_COUNT < kind {
-        return answers::KIND_UNKNOWN;
-    }
-    0
+// A card and a kind, of any numbers: whose tokens, and of which kind.
+#[derive(Clone, Copy, Debug, PartialEq, Eq, Hash)]
+pub struct Account {
+    pub card: u32,
+    pub kind: u32,
 }
 
-// The number, or 1 for 0, so that one can be taken off.
-fn at_least_one(n: u32) -> usize
-    ensures { result ≡ max n 1 }
-{
-    if n < 1 {
-        return 1;
+impl Account {
+    // Where the card's holding of the kind is; 0 is taken for 1.
+    pub fn place(self) -> usize
+        ensures { result ≡ place_of self.card self.kind }
+    {
+        (self.card as usize).saturating_sub(1) * KINDS + (self.kind as usize).saturating_sub(1)
     }
-    n as usize
+
+    // Questions 8 and 9.
+    fn known(self, declared: u8) -> Result<(), Reason>
+        ensures { result ≡ account_answer declared self.card self.kind }
+    {
+        if self.card < 1 || u32::from(declared.min(limits::CARD_LIMIT)) < self.card {
+            return Err(Reason::CardUndeclared);
+        }
+        if self.kind < 1 || KIND_COUNT < self.kind {
+            return Err(Reason::KindUnknown);
+        }
+        Ok(())
+    }
 }
 
-// Where the card's holding of the kind is, of any numbers; 0 is taken for 1.
-pub fn place(card: u32, kind: u32) -> usize
-    ensures { result ≡ place_of card kind }
+// Where the holdings of the undeclared cards begin, of any number of declared ones.
+pub fn declared_end(declared: u8) -> usize
+    ensures { result ≡ min declared card_limit * kind_count }
 {
-    (at_least_one(card) - 1) * KINDS + (at_least_one(kind) - 1)
-}
-
-fn wide(x: u32) -> u64
-    ensures { (result ≡ x) × (result < 4294967296) }
-{
-    x as u64
+    usize::from(declared.min(limits::CARD_LIMIT)) * KINDS
 }
 
 // The kind's sum over all cards; a number that is no kind has none.
 pub fn kind_sum(holdings: &[u32; 512], kind: u32) -> u64
     ensures { (result ≡ total (state_from holdings.now) kind) × (result < 1099511627776) }
 {
-    if kind < 1 {
+    if kind < 1 || KIND_COUNT < kind {
         return 0;
     }
-    if KIND_COUNT < kind {
-        return 0;
-    }
-    let first = kind as usize - 1;
+    let column = kind as usize - 1;
     let mut sum: u64 = 0;
-    for i in 0..CARDS {
-        sum += wide(holdings[i * KINDS + first]);
+    for row in holdings.chunks_exact(KINDS) {
+        sum += u64::from(row[column]);
     }
     sum
 }
 
-pub fn issue(declared: u8, holdings: &mut [u32; 512], card: u32, kind: u32, count: u32) -> Reply
-    ensures { AnsweredFor declared holdings.old (issue card kind count) result holdings.new }
+pub fn issue(declared: u8, holdings: &mut [u32; 512], account: Account, count: u32) -> Reply
+    ensures { AnsweredFor declared holdings.old (issue account.card account.kind count) result holdings.new }
 {
-    let refusal = account(declared, card, kind);
-    if refusal != 0 {
-        return Reply::Refused(refusal, 0);
+    account.known(declared)?;
+    let sum = kind_sum(holdings, account.kind) + u64::from(count);
+    if SUM_LIMIT < sum {
+        return Err(Refusal::from(Reason::SumExceeded));
     }
-    let sum = kind_sum(holdings, kind);
-    if SUM_LIMIT < sum + count as u64 {
-        return Reply::Refused(answers::SUM_EXCEEDED, 0);
-    }
-    let all = &mut holdings[..];
-    let at = place(card, kind);
-    all[at] = all[at] + count;
-    Reply::Done
+    let at = account.place();
+    holdings[at] += count;
+    Ok(Told::Done)
 }
 
-pub fn redeem(declared: u8, holdings: &mut [u32; 512], card: u32, kind: u32, count: u32) -> Reply
-    ensures { AnsweredFor declared holdings.old (redeem card kind count) result holdings.new }
+pub fn redeem(declared: u8, holdings: &mut [u32; 512], account: Account, count: u32) -> Reply
+    ensures { AnsweredFor declared holdings.old (redeem account.card account.kind count) result holdings.new }
 {
-    let refusal = account(declared, card, kind);
-    if refusal != 0 {
-        return Reply::Refused(refusal, 0);
+    account.known(declared)?;
+    let at = account.place();
+    if holdings[at] < count {
+        return Err(Refusal::from(Reason::HoldingShort));
     }
-    let all = &mut holdings[..];
-    let at = place(card, kind);
-    let held = all[at];
-    if held < count {
-        return Reply::Refused(answers::HOLDING_SHORT, 0);
-    }
-    all[at] = held - count;
-    Reply::Done
+    holdings[at] -= count;
+    Ok(Told::Done)
 }
 
-pub fn holding(declared: u8, holdings: &[u32; 512], card: u32, kind: u32) -> Reply
-    ensures { AnsweredFor declared holdings.now (query card kind) result holdings.now }
+pub fn holding(declared: u8, holdings: &[u32; 512], account: Account) -> Reply
+    ensures { AnsweredFor declared holdings.now (query account.card account.kind) result holdings.now }
 {
-    let refusal = account(declared, card, kind);
-    if refusal != 0 {
-        return Reply::Refused(refusal, 0);
-    }
-    let at = place(card, kind);
-    Reply::Holding(holdings[at])
+    account.known(declared)?;
+    Ok(Told::Holding(holdings[account.place()]))
 }

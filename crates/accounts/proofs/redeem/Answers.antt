@@ -1,28 +1,25 @@
 -- A refusal is the first of questions 8, 9 and 11; otherwise the count is taken at the card's and kind's place.
 use native.Mathlib.Omega.{arith}
-use borrow.Author.Rules.{rules}
-use Rattle.accounts.proofs.AccountLaws.{Account, account_met, redeem_unknown, redeem-short, redeem-done}
+use Rattle.std.proofs.lemmas.Result.{err_from_is_err_and}
+use Rattle.accounts.proofs.AccountLaws.{account_met, redeem_unknown, redeem-short, redeem-done}
 use Rattle.accounts.proofs.redeem.Goals as goal
-use Rattle.accounts.proofs.redeem.Goals.{Else-refusal-ne0}
 
-pub returns-then-refusal-ne0 : goal.returns-then-refusal-ne0
-returns-then-refusal-ne0 c = redeem_unknown _ _ _ _ _ c.account-refusal.ensures c.if-refusal-ne0.true _
+pub returns-in_err-known : goal.returns-in_err-known
+returns-in_err-known c = let p = err_from_is_err_and c.from_residual.result c.from_residual.ensures.1 in rw (p.1, p.2) (redeem_unknown _ _ _ _ _ c.in_err-known.ensures _)
 
--- questions 8 and 9 are met
-known : (c : Else-refusal-ne0) → let given = c.args in Account given.declared given.card given.kind
-known c = account_met _ _ _ _ c.account-refusal.ensures c.if-refusal-ne0.false
+pub bounds-holdings-at : goal.bounds-holdings-at
+bounds-holdings-at c = let k = account_met _ _ _ _ c.in_ok-known.ensures in omega arith
 
-pub bounds-all-at : goal.bounds-all-at
-bounds-all-at c = omega (arith, known (goal.at.bounds-all-at c).Else-refusal-ne0)
+pub returns-then-holdings-at : goal.returns-then-holdings-at
+returns-then-holdings-at c = rw c.from.ensures (redeem-short _ _ _ _ (account_met _ _ _ _ c.in_ok-known.ensures) _ (rw c.place-at.ensures at c.if-holdings-at.true))
 
-pub returns-then-held-count : goal.returns-then-held-count
-returns-then-held-count c =
-    redeem-short _ _ _ _ (known (goal.at.returns-then-held-count c).Else-refusal-ne0) _ (rw c.place-at.ensures at c.if-held-count.true)
+pub bounds-holdings-at-2 : goal.bounds-holdings-at-2
+bounds-holdings-at-2 c = let k = account_met _ _ _ _ c.in_ok-known.ensures in omega arith
 
-pub bounds-all-at-2 : goal.bounds-all-at-2
-bounds-all-at-2 c = omega (arith, known (goal.at.bounds-all-at-2 c).Else-refusal-ne0)
+pub bounds-holdings-at-3 : goal.bounds-holdings-at-3
+bounds-holdings-at-3 c = let k = account_met _ _ _ _ c.in_ok-known.ensures in omega arith
 
 pub returns : goal.returns
 returns c =
     rw c.place-at.ensures
-    (redeem-done _ _ _ _ (known (goal.at.returns c).Else-refusal-ne0) _ (search rules) (rw c.place-at.ensures at c.if-held-count.false))
+    (redeem-done _ _ _ _ (account_met _ _ _ _ c.in_ok-known.ensures) _ c.told-holdings (rw c.place-at.ensures at c.if-holdings-at.false))
