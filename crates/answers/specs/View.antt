@@ -1,8 +1,6 @@
 -- The model's answer that an answer of the program is: document 01's number and place, or what is told.
 use Rattle.std.specs.Prelude.{ℕ, Result, Ok, Err}
 use Rattle.model.specs.Questions as model
-use Rattle.answers.specs.declared.Answer.{Answer}
-use Rattle.answers.specs.declared.Answer.TheVariants as answer
 use Rattle.answers.specs.declared.Reason.{Reason}
 use Rattle.answers.specs.declared.Reason.TheVariants as reason
 use Rattle.answers.specs.declared.Refusal.{Refusal}
@@ -37,9 +35,9 @@ number_of reason.HoldingExceeded = 23
 number_of reason.BadHoldings = 24
 
 -- of an opening; `told` is what it tells where it is not refused
-abbrev pub answer_of : {A : Type 0} → A → Answer → model.Answer A
-answer_of told answer.Done = model.ok told
-answer_of told (answer.Refused number place) = model.refused number place
+abbrev pub answer_of : {A : Type 0} → A → Result (Unit {0}) Refusal → model.Answer A
+answer_of told (Ok _) = model.ok told
+answer_of told (Err r) = model.refused (number_of r.reason) r.place
 
 -- what a call tells
 abbrev pub told_of : Told → model.Told

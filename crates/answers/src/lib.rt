@@ -56,6 +56,18 @@ pub struct Refusal {
     pub place: u32,
 }
 
+impl Reason {
+    // A refusal for this reason at a place.
+    pub fn at(self, place: u32) -> Refusal
+        ensures { result ≡ record { reason = self; place = place } }
+    {
+        Refusal {
+            reason: self,
+            place,
+        }
+    }
+}
+
 // Most reasons have no place.
 impl From<Reason> for Refusal {
     ghost from_gives = { λ why refusal. refusal ≡ record { reason = why; place = 0 } };
@@ -85,9 +97,5 @@ pub fn refusal_number(reply: Reply) -> u8
     }
 }
 
-// What opening a text answers: done, or refused with a number and the line, or 0.
-#[derive(Clone, Copy)]
-pub enum Answer {
-    Done,
-    Refused(u8, u32),
-}
+// What opening a text answers.
+pub type Answer = Result<(), Refusal>;

@@ -20,14 +20,20 @@ use Rattle.forms.proofs.Digits.{in_row_lem}
 use Rattle.rulebook.specs.Layout.{card_row_size, card_table_size, length_place, digit_place, rule_row_size, rule_table_size}
 use Rattle.rulebook.specs.View.{card_count, rule_count, cards_of, book_of}
 use Rattle.rulebook.specs.Reads.{no_tables, Reads, EveryTextReads}
-use Rattle.rulebook.specs.declared.Reading.{Reading}
+use Rattle.rulebook.specs.declared.Tables.{Tables}
+use Rattle.std.specs.Prelude.{Result, Ok, Err, ◌⊎◌}
+use Rattle.std.proofs.Common.{inl, inr, ⊎_elim, sym}
+use Rattle.answers.specs.View.{answer_of, number_of}
+use Rattle.answers.specs.declared.Reason.{Reason}
+use Rattle.answers.specs.declared.Reason.TheVariants as reason
+use Rattle.answers.specs.declared.Refusal.{Refusal}
 use Rattle.rulebook.specs.inner.Writes.{Written, CardAdded, MemberAdded, RuleAdded}
 use Rattle.rulebook.specs.inner.Rows.{row_of}
-use Rattle.rulebook.specs.inner.Lines.{card_questions, group_questions, rule_questions, AddedUnless, Sized, LineTaken}
+use Rattle.rulebook.specs.inner.Lines.{card_questions, group_questions, rule_questions, AddedUnless, Sized, at_line, LineTaken}
 use Rattle.rulebook.proofs.Written.{written_none, written_more, byte_written, card-added, member-added, rule-added}
 use Rattle.rulebook.proofs.Rows.{row-length}
 use Rattle.rulebook.proofs.Grown.{no_tables_lem}
-use Rattle.rulebook.proofs.Forms.{how_many}
+use Rattle.rulebook.proofs.Forms.{how_many, refuses, takes}
 use Rattle.rulebook.proofs.Lines.{card-room, group-room, rule-room, card-line, group-line, rule-line, no_line}
 use Rattle.rulebook.proofs.Texts.{empty, empty_sized, reads_refused, reads_done}
 
@@ -58,43 +64,51 @@ a_rule row rules size room row_is =
 
 -- ---- a line: what is asked decides, and what is met can be added
 
-asks : (questions : List Question) (Added : List ℕ → Type 0) (t : List ℕ) → (first_unmet questions ≡ 0 → (t' : List ℕ) × Added t')
-    → (t' : List ℕ) × AddedUnless questions Added (first_unmet questions) t t'
-asks questions Added t add = go (eqb (first_unmet questions) 0) refl
+-- each number is a reason's
+abbrev Reasons : List Question → Type 0
+Reasons [] = Unit {0}
+Reasons (q ∷ qs) = ((reason : Reason) × (number_of reason ≡ q.number)) × Reasons qs
+
+unmet : (qs : List Question) → Reasons qs → (first_unmet qs ≡ 0) ⊎ ((reason : Reason) × (number_of reason ≡ first_unmet qs))
+unmet [] reasons = inl refl
+unmet (q ∷ qs) reasons = go (unmet qs reasons.1) q.met
   where
-    go : (x : Bool) → eqb (first_unmet questions) 0 ≡ x → (t' : List ℕ) × AddedUnless questions Added (first_unmet questions) t t'
-    go true e =
-        let z = eqb-true (first_unmet questions) 0 e in
-        let more = add z in
-        (more.0, record { refusal_is = refl; added = λ p. more.1; kept = λ p. absurd (p z) })
-    go false e = (t, record { refusal_is = refl; added = λ z. absurd (eqb-false (first_unmet questions) 0 e z); kept = λ p. refl })
+    go : (first_unmet qs ≡ 0) ⊎ ((reason : Reason) × (number_of reason ≡ first_unmet qs)) → (x : Bool)
+        → (cond x (first_unmet qs) q.number ≡ 0) ⊎ ((reason : Reason) × (number_of reason ≡ cond x (first_unmet qs) q.number))
+    go rest true = rest
+    go rest false = inr reasons.0
+
+asks : (questions : List Question) (Added : List ℕ → Type 0) (t : List ℕ) → Reasons questions → (first_unmet questions ≡ 0 → (t' : List ℕ) × Added t')
+    → (r : Result (Unit {0}) Reason) × (t' : List ℕ) × AddedUnless questions Added r t t'
+asks questions Added t reasons add =
+    ⊎_elim (λ z. let more = add z in (Ok tt, more.0, takes (sym z) more.1)) (λ named. (Err named.0, t, refuses named.1)) (unmet questions reasons)
 
 module _ (w cards rules : List ℕ) (sized : Sized cards rules) where
   record Line : Type 0 where
-    refusal : ℕ
+    result : Result (Unit {0}) Reason
     next-cards : List ℕ
     next-rules : List ℕ
-    taken : LineTaken w cards rules refusal next-cards next-rules
+    taken : LineTaken w cards rules result next-cards next-rules
 
   card : get_or w 0 0 ≡ code "C" → Line
   card first =
-      let asked = asks (card_questions (cards_of cards) w) (CardAdded (card_digits (card_read w)) cards) cards (λ z.
+      let asked = asks (card_questions (cards_of cards) w) (CardAdded (card_digits (card_read w)) cards) cards ((reason.NoForm, refl), ((reason.TooManyCards, refl), ((reason.BadCardNumber, refl), ((reason.CardRepeated, refl), tt)))) (λ z.
       let room = card-room (cards_of cards) w z in
       a_card (card_digits (card_read w)) cards sized.cards-size (omega (arith, room, how_many cards)) room.2) in
-      record { refusal = _; next-cards = asked.0; next-rules = rules; taken = card-line sized first (record { asked = asked.1 }) }
+      record { result = asked.0; next-cards = asked.1; next-rules = rules; taken = card-line sized first (record { asked = asked.2 }) }
 
   group : get_or w 0 0 ≡ code "G" → Line
   group first =
-      let asked = asks (group_questions (card_count cards) w) (MemberAdded (group_of (get_or w 2 0)) (number_at w 4) cards) cards (λ z.
+      let asked = asks (group_questions (card_count cards) w) (MemberAdded (group_of (get_or w 2 0)) (number_at w 4) cards) cards ((reason.NoForm, refl), ((reason.CardNotAbove, refl), tt)) (λ z.
       let j = group-room cards w z in
       (_, member-added (group_of (get_or w 2 0)) (number_at w 4) cards j.numbers.group-low j.numbers.group_high j.numbers.card-low j.card_high sized.cards-size)) in
-      record { refusal = _; next-cards = asked.0; next-rules = rules; taken = group-line sized first (record { asked = asked.1 }) }
+      record { result = asked.0; next-cards = asked.1; next-rules = rules; taken = group-line sized first (record { asked = asked.2 }) }
 
   rule : get_or w 0 0 ≡ code "R" → Line
   rule first =
-      let asked = asks (rule_questions (card_count cards) (rule_count rules) w) (RuleAdded (row_of w) rules) rules (λ z.
+      let asked = asks (rule_questions (card_count cards) (rule_count rules) w) (RuleAdded (row_of w) rules) rules ((reason.NoForm, refl), ((reason.CardNotAbove, refl), ((reason.TooManyRules, refl), tt))) (λ z.
       a_rule (row_of w) rules sized.rules-size (rule-room (card_count cards) rules w z).1 (row-length w)) in
-      record { refusal = _; next-cards = cards; next-rules = asked.0; taken = rule-line sized first (record { asked = asked.1 }) }
+      record { result = asked.0; next-cards = cards; next-rules = asked.1; taken = rule-line sized first (record { asked = asked.2 }) }
 
   line : Line
   line = go (eqb (get_or w 0 0) (code "C")) (eqb (get_or w 0 0) (code "G")) (eqb (get_or w 0 0) (code "R")) refl refl refl
@@ -104,7 +118,7 @@ module _ (w cards rules : List ℕ) (sized : Sized cards rules) where
       go false true z p q r = group (eqb-true (get_or w 0 0) (code "G") q)
       go false false true p q r = rule (eqb-true (get_or w 0 0) (code "R") r)
       go false false false p q r = record {
-        refusal = 2;
+        result = Err reason.NoForm;
         next-cards = cards;
         next-rules = rules;
         taken = no_line sized (eqb-false (get_or w 0 0) (code "C") p) (eqb-false (get_or w 0 0) (code "G") q) (eqb-false (get_or w 0 0) (code "R") r);
@@ -115,18 +129,18 @@ module _ (w cards rules : List ℕ) (sized : Sized cards rules) where
 -- an answer is a refusal, or the book of some tables
 data Held : Answer Book → Type 0 where
   held : (cards rules : List ℕ) → Held (ok (book_of cards rules))
-  not : (n i : ℕ) → Held (refused n i)
+  not : (r : Refusal) → Held (refused (number_of r.reason) r.place)
 
 -- a line leads to the next one, over the tables that it leaves
 module _ (ws : List (List ℕ)) (last : List ℕ) (i : ℕ) where
   line_then : {w cards rules : List ℕ} {sized : Sized cards rules} (l : Line w cards rules sized)
       → Held (open_lines (i + 1) (book_of l.next-cards l.next-rules) ws last) → Held (open_lines i (book_of cards rules) (w ∷ ws) last)
   unfolding open_lines
-  line_then l rest = subst (λ (a : Answer Book). Held (and_then a (λ b. open_lines (i + 1) b ws last))) (l.taken.answer i) (go (eqb l.refusal 0))
+  line_then l rest = subst (λ (a : Answer Book). Held (and_then a (λ b. open_lines (i + 1) b ws last))) (l.taken.answer i) (go l.result)
     where
-      go : (x : Bool) → Held (and_then (cond x (ok (book_of l.next-cards l.next-rules)) (refused l.refusal i)) (λ b. open_lines (i + 1) b ws last))
-      go true = rest
-      go false = not l.refusal i
+      go : (r : Result (Unit {0}) Reason) → Held (and_then (answer_of (book_of l.next-cards l.next-rules) (at_line i r)) (λ b. open_lines (i + 1) b ws last))
+      go (Ok _) = rest
+      go (Err reason) = not (record { reason = reason; place = i })
 
 lines : (ws : List (List ℕ)) (last : List ℕ) (i : ℕ) (cards rules : List ℕ) → Sized cards rules → Held (open_lines i (book_of cards rules) ws last)
 unfolding open_lines
@@ -134,7 +148,7 @@ lines [] last i cards rules sized = go (eqb (length last) 0)
   where
     go : (x : Bool) → Held (cond x (ok (book_of cards rules)) (refused 2 i))
     go true = held cards rules
-    go false = not 2 i
+    go false = not (record { reason = reason.NoForm; place = i })
 lines (w ∷ ws) last i cards rules sized =
     let l = line w cards rules sized in
     line_then ws last i l (lines ws last (i + 1) l.next-cards l.next-rules l.taken.sized)
@@ -145,12 +159,12 @@ opens text = go (leb (length text) text_limit)
   where
     go : (x : Bool) → Held (cond x (open_lines 1 no_book (cut text).lines (cut text).last) (refused 1 0))
     go true = rw (no_tables_lem empty) at (lines (cut text).lines (cut text).last 1 no_tables.cards no_tables.rules (empty_sized empty))
-    go false = not 1 0
+    go false = not (record { reason = reason.TextTooLong; place = 0 })
 
 -- a reading of a text with this answer
-reading : {text : List ℕ} {a : Answer Book} → Held a → opening text ≡ a → (r : Reading) × Reads r text
+reading : {text : List ℕ} {a : Answer Book} → Held a → opening text ≡ a → (r : Result Tables Refusal) × Reads r text
 reading (held cards rules) e = (_, reads_done {t = record { cards = cards; rules = rules }} e)
-reading (not n i) e = (_, reads_refused e)
+reading (not r) e = (_, reads_refused e)
 
 pub text_reads : EveryTextReads
 text_reads text = reading (opens text) refl

@@ -15,6 +15,10 @@ use Rattle.model.specs.Reader.{group_of, digit_of, width_of, number_of, number_w
 use Rattle.model.specs.Opening.{card_digits, is_card_number}
 use Rattle.model.proofs.Tests.{both_true}
 use Rattle.model.proofs.Places.{up_to_length}
+use Rattle.answers.specs.View as answers
+use Rattle.answers.specs.declared.Reason.{Reason}
+use Rattle.answers.specs.declared.Reason.TheVariants.{NoForm, TooManyCards, BadCardNumber, CardRepeated, CardNotAbove, TooManyRules}
+use Rattle.std.specs.Prelude.{Ok, Err}
 use Rattle.rulebook.specs.View.{card_count, rule_count, card_view, cards_of}
 use Rattle.rulebook.specs.inner.Rows.{row_of}
 use Rattle.rulebook.specs.inner.Lines.{AddedUnless, CardTaken, GroupTaken, RuleTaken}
@@ -82,11 +86,12 @@ owner-low w h =
 
 -- ---- what a question that is not met leaves, and a line that meets all
 
-refuses : {questions : List Question} {Added : List ℕ → Type 0} {n : ℕ} {t : List ℕ} → n ≡ first_unmet questions → 1 ≤ n → AddedUnless questions Added n t t
-refuses e l = record { refusal_is = e; added = λ z. absurd (omega arith); kept = λ p. refl }
+pub refuses : {questions : List Question} {Added : List ℕ → Type 0} {reason : Reason} {t : List ℕ} → answers.number_of reason ≡ first_unmet questions
+    → AddedUnless questions Added (Err reason) t t
+refuses e = record { first = e; added = tt; kept = refl }
 
-takes : {questions : List Question} {Added : List ℕ → Type 0} {t t' : List ℕ} → 0 ≡ first_unmet questions → Added t' → AddedUnless questions Added 0 t t'
-takes e a = record { refusal_is = e; added = λ z. a; kept = λ p. absurd (p refl) }
+pub takes : {questions : List Question} {Added : List ℕ → Type 0} {t t' : List ℕ} → 0 ≡ first_unmet questions → Added t' → AddedUnless questions Added (Ok tt) t t'
+takes e a = record { first = e; added = a; kept = tt }
 
 -- ---- a card line
 
@@ -94,52 +99,52 @@ pub how_many : (cards : List ℕ) → length (cards_of cards) ≡ card_count car
 how_many cards = up_to_length (λ i. card_view cards (suc i)) (card_count cards)
 
 module _ {w cards : List ℕ} where
-  pub card_no_form : is_card_line w ≡ false → CardTaken w cards 2 cards
-  card_no_form e = record { asked = refuses (rw e) (omega arith) }
+  pub card_no_form : is_card_line w ≡ false → CardTaken w cards (Err NoForm) cards
+  card_no_form e = record { asked = refuses (rw e) }
 
   module _ (formed : is_card_line w ≡ true) where
-    pub cards_full : 32 ≤ card_count cards → CardTaken w cards 3 cards
-    cards_full l = record { asked = refuses (rw (formed, how_many cards, le-ltb (card_count cards) 32 l)) (omega arith) }
+    pub cards_full : 32 ≤ card_count cards → CardTaken w cards (Err TooManyCards) cards
+    cards_full l = record { asked = refuses (rw (formed, how_many cards, le-ltb (card_count cards) 32 l)) }
 
     module _ (room : card_count cards < 32) where
-      pub card_wrong : is_card_number (card_digits (card_read w)) ≡ false → CardTaken w cards 4 cards
-      card_wrong e = record { asked = refuses (rw (formed, how_many cards, lt-ltb (card_count cards) 32 room, e)) (omega arith) }
+      pub card_wrong : is_card_number (card_digits (card_read w)) ≡ false → CardTaken w cards (Err BadCardNumber) cards
+      card_wrong e = record { asked = refuses (rw (formed, how_many cards, lt-ltb (card_count cards) 32 room, e)) }
 
       module _ (number : is_card_number (card_digits (card_read w)) ≡ true) where
-        pub card-repeated : any (eq_list (card_digits (card_read w))) (cards_of cards) ≡ true → CardTaken w cards 5 cards
-        card-repeated e = record { asked = refuses (rw (formed, how_many cards, lt-ltb (card_count cards) 32 room, number, e)) (omega arith) }
+        pub card-repeated : any (eq_list (card_digits (card_read w))) (cards_of cards) ≡ true → CardTaken w cards (Err CardRepeated) cards
+        card-repeated e = record { asked = refuses (rw (formed, how_many cards, lt-ltb (card_count cards) 32 room, number, e)) }
 
-        pub card-taken : any (eq_list (card_digits (card_read w))) (cards_of cards) ≡ false → {cards' : List ℕ} → CardAdded (card_digits (card_read w)) cards cards' → CardTaken w cards 0 cards'
+        pub card-taken : any (eq_list (card_digits (card_read w))) (cards_of cards) ≡ false → {cards' : List ℕ} → CardAdded (card_digits (card_read w)) cards cards' → CardTaken w cards (Ok tt) cards'
         card-taken e a = record { asked = takes (rw (formed, how_many cards, lt-ltb (card_count cards) 32 room, number, e)) a }
 
 -- ---- a group line
 
 module _ {w cards : List ℕ} where
-  pub group_no_form : is_group_line w ≡ false → GroupTaken w cards 2 cards
-  group_no_form e = record { asked = refuses (rw e) (omega arith) }
+  pub group_no_form : is_group_line w ≡ false → GroupTaken w cards (Err NoForm) cards
+  group_no_form e = record { asked = refuses (rw e) }
 
   module _ (formed : is_group_line w ≡ true) where
-    pub group-not_above : card_count cards < number_at w 4 → GroupTaken w cards 6 cards
+    pub group-not_above : card_count cards < number_at w 4 → GroupTaken w cards (Err CardNotAbove) cards
     group-not_above l =
-        record { asked = refuses (rw (formed, le-leb 1 (number_at w 4) (grouped w formed).card-low, lt-leb (number_at w 4) (card_count cards) l)) (omega arith) }
+        record { asked = refuses (rw (formed, le-leb 1 (number_at w 4) (grouped w formed).card-low, lt-leb (number_at w 4) (card_count cards) l)) }
 
-    pub group-taken : number_at w 4 ≤ card_count cards → {cards' : List ℕ} → MemberAdded (group_of (get_or w 2 0)) (number_at w 4) cards cards' → GroupTaken w cards 0 cards'
+    pub group-taken : number_at w 4 ≤ card_count cards → {cards' : List ℕ} → MemberAdded (group_of (get_or w 2 0)) (number_at w 4) cards cards' → GroupTaken w cards (Ok tt) cards'
     group-taken l a = record { asked = takes (rw (formed, le-leb 1 (number_at w 4) (grouped w formed).card-low, le-leb (number_at w 4) (card_count cards) l)) a }
 
 -- ---- a rule line
 
 module _ {w : List ℕ} {cards : ℕ} {rules : List ℕ} where
-  pub rule_no_form : is_rule_line w ≡ false → RuleTaken w cards rules 2 rules
-  rule_no_form e = record { asked = refuses (rw e) (omega arith) }
+  pub rule_no_form : is_rule_line w ≡ false → RuleTaken w cards rules (Err NoForm) rules
+  rule_no_form e = record { asked = refuses (rw e) }
 
   module _ (formed : is_rule_line w ≡ true) where
-    pub rule-not_above : cards < number_at w 2 → RuleTaken w cards rules 6 rules
-    rule-not_above l = record { asked = refuses (rw (formed, le-leb 1 (number_at w 2) (owner-low w formed), lt-leb (number_at w 2) cards l)) (omega arith) }
+    pub rule-not_above : cards < number_at w 2 → RuleTaken w cards rules (Err CardNotAbove) rules
+    rule-not_above l = record { asked = refuses (rw (formed, le-leb 1 (number_at w 2) (owner-low w formed), lt-leb (number_at w 2) cards l)) }
 
     module _ (above : number_at w 2 ≤ cards) where
-      pub rules_full : 56 ≤ rule_count rules → RuleTaken w cards rules 7 rules
+      pub rules_full : 56 ≤ rule_count rules → RuleTaken w cards rules (Err TooManyRules) rules
       rules_full l =
-          record { asked = refuses (rw (formed, le-leb 1 (number_at w 2) (owner-low w formed), le-leb (number_at w 2) cards above, le-ltb (rule_count rules) 56 l)) (omega arith) }
+          record { asked = refuses (rw (formed, le-leb 1 (number_at w 2) (owner-low w formed), le-leb (number_at w 2) cards above, le-ltb (rule_count rules) 56 l)) }
 
-      pub rule-taken : rule_count rules < 56 → {rules' : List ℕ} → RuleAdded (row_of w) rules rules' → RuleTaken w cards rules 0 rules'
+      pub rule-taken : rule_count rules < 56 → {rules' : List ℕ} → RuleAdded (row_of w) rules rules' → RuleTaken w cards rules (Ok tt) rules'
       rule-taken l a = record { asked = takes (rw (formed, le-leb 1 (number_at w 2) (owner-low w formed), le-leb (number_at w 2) cards above, lt-ltb (rule_count rules) 56 l)) a }

@@ -2,24 +2,28 @@
 use mathlib.Core.Path.{◌≡◌, refl, sym, ◌∙◌, ap}
 use mathlib.Core.Bool.{Bool, true, false, ◌&&◌, cond}
 use mathlib.Core.List.{List, [], ◌∷◌}
-use mathlib.Core.Logic.{⊎_elim}
 use mathlib.Core.Option.{none, some}
 use Prim.Native.Char.{code}
 use Prim.Native.Nat.{ℕ, ◌≤◌, ◌<◌}
 use native.Mathlib.Omega.{arith}
 use lib.Dec.{T, eqb, leb, ltb}
 use lib.ListN.{length, get_or}
-use borrow.Author.Tests.{eq-eqb, ne_eqb, eqb-true, ltb-true, leb-true}
+use borrow.Author.Tests.{eq-eqb, ne_eqb, ltb-true, leb-true}
 use Rattle.model.specs.Questions.{ok, refused, Question, ◌unless◌, in_order, first_unmet}
 use Rattle.model.specs.Limits.{card_limit, rule_limit, least_digits, most_digits}
 use Rattle.model.specs.Grammar.{Rule, Line, card, group, rule}
 use Rattle.model.specs.Reader.{group_of, number_at, is_card_line, card_read, is_group_line, is_rule_line, rule_read, some_if, read_line}
 use Rattle.model.specs.Book.{Book}
 use Rattle.model.specs.Opening.{card_digits, is_card_number, line_questions, with_line, add_line, open_line}
-use Rattle.model.proofs.Tests.{both_true, zero_or_more}
+use Rattle.model.proofs.Tests.{both_true}
 use Rattle.model.proofs.Questions.{numbered, first_refuses}
+use Rattle.std.specs.Prelude.{Result, Ok, Err, OnOk}
+use Rattle.answers.specs.View.{answer_of, number_of}
+use Rattle.answers.specs.declared.Reason.{Reason}
+use Rattle.answers.specs.declared.Reason.TheVariants.{NoForm}
+use Rattle.answers.proofs.Numbers.{number_positive}
 use Rattle.rulebook.specs.View.{card_count, rule_count, cards_of, book_of}
-use Rattle.rulebook.specs.inner.Lines.{card_questions, group_questions, rule_questions, AddedUnless, CardTaken, GroupTaken, RuleTaken, Sized, line_answer, LineTaken}
+use Rattle.rulebook.specs.inner.Lines.{card_questions, group_questions, rule_questions, number_in, AddedUnless, CardTaken, GroupTaken, RuleTaken, Sized, at_line, LineTaken}
 use Rattle.rulebook.proofs.Books.{cards_are, card-count, rule-count, count_small}
 use Rattle.rulebook.proofs.Rows.{row-says, row-length}
 use Rattle.rulebook.proofs.Grown.{card_grown, member_grown, rule_grown}
@@ -42,20 +46,26 @@ module _ (w cards rules cards' rules' : List ℕ) (l : Line) (x : Bool) (is : re
       go true = refl
       go false = refl
 
-  line-answer : (r : ℕ) → r ≡ first_unmet ((2 unless x) ∷ line_questions (book_of cards rules) l) → (r ≡ 0 → book_of cards' rules' ≡ with_line (book_of cards rules) l)
-      → (i : ℕ) → line_answer r i (book_of cards' rules') ≡ open_line i (book_of cards rules) w
+  line-answer : (r : Result (Unit {0}) Reason) → number_in r ≡ first_unmet ((2 unless x) ∷ line_questions (book_of cards rules) l)
+      → OnOk r (book_of cards' rules' ≡ with_line (book_of cards rules) l) → (i : ℕ) → answer_of (book_of cards' rules') (at_line i r) ≡ open_line i (book_of cards rules) w
   line-answer r e h i =
-      go (eqb r 0) refl ∙ sym (rw (sym e) at (first_refuses ((2 unless x) ∷ line_questions (book_of cards rules) l) i (ok (with_line (book_of cards rules) l)) (asked (book_of cards rules) l))) ∙ sym (opened i)
+      go r _ _ e h ∙ sym (first_refuses ((2 unless x) ∷ line_questions (book_of cards rules) l) i (ok (with_line (book_of cards rules) l)) (asked (book_of cards rules) l)) ∙ sym (opened i)
     where
-      go : (y : Bool) → eqb r 0 ≡ y → cond y (ok (book_of cards' rules')) (refused r i) ≡ cond y (ok (with_line (book_of cards rules) l)) (refused r i)
-      go true p = ap ok (h (eqb-true r 0 p))
-      go false p = refl
+      go : (r : Result (Unit {0}) Reason) {n : ℕ} (b b' : Book) → number_in r ≡ n → OnOk r (b' ≡ b) → answer_of b' (at_line i r) ≡ cond (eqb n 0) (ok b) (refused n i)
+      go (Ok _) b b' e h = rw (sym e) (ap ok h)
+      go (Err reason) b b' e h = rw (sym e, ne_eqb (number_of reason) 0 (λ z. omega (arith, number_positive reason, z)))
 
 -- a table that a line leaves has the length that it had
-kept-size : {questions : List Question} {Added : List ℕ → Type 0} {r : ℕ} {t t' : List ℕ} → AddedUnless questions Added r t t'
+kept-size : {questions : List Question} {Added : List ℕ → Type 0} {r : Result (Unit {0}) Reason} {t t' : List ℕ} → AddedUnless questions Added r t t'
     → ((u : List ℕ) → Added u → length u ≡ length t) → length t' ≡ length t
-kept-size {questions} {Added} {r} {t} {t'} h f =
-    ⊎_elim (λ z. f t' (h.added z)) (λ p. ap length (h.kept (λ z. omega (arith, z, p)))) (zero_or_more r)
+kept-size {r = Ok _} {t' = t'} h f = f t' h.added
+kept-size {r = Err _} h f = ap length h.kept
+
+-- what is said of a line that is taken
+taken-as : {questions : List Question} {Added : List ℕ → Type 0} {r : Result (Unit {0}) Reason} {t t' : List ℕ} {P : Type 0} → AddedUnless questions Added r t t'
+    → (first_unmet questions ≡ 0 → Added t' → P) → OnOk r P
+taken-as {r = Ok _} h f = f (sym h.first) h.added
+taken-as {r = Err _} h f = tt
 
 met : (n : ℕ) (x : Bool) (rest : ℕ) → 1 ≤ n → cond x rest n ≡ 0 → (x ≡ true) × (rest ≡ 0)
 met n true rest l e = (refl, e)
@@ -112,51 +122,49 @@ rule-room cards rules w e =
     let b = met 6 (leb 1 (number_at w 2) && leb (number_at w 2) cards) _ (omega arith) a.1 in
     (a.0, ltb-true (rule_count rules) rule_limit (met 7 (ltb (rule_count rules) rule_limit) 0 (omega arith) b.1).0)
 
-pub card-line : {w cards rules : List ℕ} → Sized cards rules → get_or w 0 0 ≡ code "C" → {r : ℕ} {cards' : List ℕ}
+pub card-line : {w cards rules : List ℕ} → Sized cards rules → get_or w 0 0 ≡ code "C" → {r : Result (Unit {0}) Reason} {cards' : List ℕ}
     → CardTaken w cards r cards' → LineTaken w cards rules r cards' rules
 card-line {w} {cards} {rules} sized first {r} {cards'} h = record {
-  answer = line-answer w cards rules cards' rules (card (card_read w)) (is_card_line w) (card_reads w first) r (rw (cards_are cards rules) h.asked.refusal_is) new;
+  answer = line-answer w cards rules cards' rules (card (card_read w)) (is_card_line w) (card_reads w first) r (rw (cards_are cards rules) h.asked.first) new;
   sized = record { cards-size = kept-size h.asked (λ u a. a.size) ∙ sized.cards-size; rules-size = sized.rules-size };
 }
   where
-    new : r ≡ 0 → book_of cards' rules ≡ with_line (book_of cards rules) (card (card_read w))
-    new z =
-        let room = card-room (cards_of cards) w (sym h.asked.refusal_is ∙ z) in
-        card_grown (card_read w) (h.asked.added z) room.1 room.2 rules
+    new : OnOk r (book_of cards' rules ≡ with_line (book_of cards rules) (card (card_read w)))
+    new = taken-as h.asked (λ z a. let room = card-room (cards_of cards) w z in card_grown (card_read w) a room.1 room.2 rules)
 
-pub group-line : {w cards rules : List ℕ} → Sized cards rules → get_or w 0 0 ≡ code "G" → {r : ℕ} {cards' : List ℕ}
+pub group-line : {w cards rules : List ℕ} → Sized cards rules → get_or w 0 0 ≡ code "G" → {r : Result (Unit {0}) Reason} {cards' : List ℕ}
     → GroupTaken w cards r cards' → LineTaken w cards rules r cards' rules
 group-line {w} {cards} {rules} sized first {r} {cards'} h = record {
   answer =
-      line-answer w cards rules cards' rules (group (group_of (get_or w 2 0)) (number_at w 4)) (is_group_line w) (group_reads w first) r (rw (card-count cards rules) h.asked.refusal_is) new;
+      line-answer w cards rules cards' rules (group (group_of (get_or w 2 0)) (number_at w 4)) (is_group_line w) (group_reads w first) r (rw (card-count cards rules) h.asked.first) new;
   sized = record { cards-size = kept-size h.asked (λ u a. a.size) ∙ sized.cards-size; rules-size = sized.rules-size };
 }
   where
-    new : r ≡ 0 → book_of cards' rules ≡ with_line (book_of cards rules) (group (group_of (get_or w 2 0)) (number_at w 4))
-    new z =
-        let j = group-room cards w (sym h.asked.refusal_is ∙ z) in
-        member_grown j.numbers.group-low j.numbers.group_high j.numbers.card-low j.card_high (h.asked.added z) rules
+    new : OnOk r (book_of cards' rules ≡ with_line (book_of cards rules) (group (group_of (get_or w 2 0)) (number_at w 4)))
+    new = taken-as h.asked (λ z a. let j = group-room cards w z in member_grown j.numbers.group-low j.numbers.group_high j.numbers.card-low j.card_high a rules)
 
-pub rule-line : {w cards rules : List ℕ} → Sized cards rules → get_or w 0 0 ≡ code "R" → {r : ℕ} {rules' : List ℕ}
+pub rule-line : {w cards rules : List ℕ} → Sized cards rules → get_or w 0 0 ≡ code "R" → {r : Result (Unit {0}) Reason} {rules' : List ℕ}
     → RuleTaken w (card_count cards) rules r rules' → LineTaken w cards rules r cards rules'
 rule-line {w} {cards} {rules} sized first {r} {rules'} h = record {
   answer =
       line-answer w cards rules cards rules' (rule (rule_read w)) (is_rule_line w) (rule_reads w first) r
-      (rw (card-count cards rules, rule-count cards rules, owner-is w) h.asked.refusal_is) new;
+      (rw (card-count cards rules, rule-count cards rules, owner-is w) h.asked.first) new;
   sized = record { cards-size = sized.cards-size; rules-size = kept-size h.asked (λ u a. a.size) ∙ sized.rules-size };
 }
   where
-    new : r ≡ 0 → book_of cards rules' ≡ with_line (book_of cards rules) (rule (rule_read w))
-    new z =
-        let formed = (rule-room (card_count cards) rules w (sym h.asked.refusal_is ∙ z)).0 in
-        rule_grown (h.asked.added z) (row-length w) cards ∙ ap (λ (x : Rule). with_line (book_of cards rules) (rule x)) (row-says w (headed w formed))
+    new : OnOk r (book_of cards rules' ≡ with_line (book_of cards rules) (rule (rule_read w)))
+    new =
+        taken-as h.asked
+        (λ z a.
+        let formed = (rule-room (card_count cards) rules w z).0 in
+        rule_grown a (row-length w) cards ∙ ap (λ (x : Rule). with_line (book_of cards rules) (rule x)) (row-says w (headed w formed)))
 
 -- any other first letter
-pub no_line : {w cards rules : List ℕ} → Sized cards rules → (get_or w 0 0 ≡ code "C" → ⊥) → (get_or w 0 0 ≡ code "G" → ⊥) → (get_or w 0 0 ≡ code "R" → ⊥) → LineTaken w cards rules 2 cards rules
+pub no_line : {w cards rules : List ℕ} → Sized cards rules → (get_or w 0 0 ≡ code "C" → ⊥) → (get_or w 0 0 ≡ code "G" → ⊥) → (get_or w 0 0 ≡ code "R" → ⊥) → LineTaken w cards rules (Err NoForm) cards rules
 unfolding read_line
 no_line {w} {cards} {rules} sized a b d = record {
   answer =
       line-answer w cards rules cards rules (card []) false
-      (rw (ne_eqb (get_or w 0 0) (code "C") a, ne_eqb (get_or w 0 0) (code "G") b, ne_eqb (get_or w 0 0) (code "R") d)) 2 refl (λ z. absurd (omega arith));
+      (rw (ne_eqb (get_or w 0 0) (code "C") a, ne_eqb (get_or w 0 0) (code "G") b, ne_eqb (get_or w 0 0) (code "R") d)) (Err NoForm) refl tt;
   sized = sized;
 }

@@ -15,10 +15,13 @@ use Rattle.model.specs.Reader.{CutText, cut}
 use Rattle.model.specs.Book.{Book}
 use Rattle.model.specs.Opening as model
 use Rattle.model.specs.Opening.{open_line, open_lines, opening}
-use Rattle.answers.specs.declared.Answer.TheVariants.{Done, Refused}
+use Rattle.std.specs.Prelude.{Result, Ok, Err}
+use Rattle.answers.specs.View.{answer_of, number_of}
+use Rattle.answers.specs.declared.Reason.{Reason}
+use Rattle.answers.specs.declared.Refusal.{Refusal}
 use Rattle.rulebook.specs.View.{book_of}
 use Rattle.rulebook.specs.Reads.{no_tables, Reads}
-use Rattle.rulebook.specs.inner.Lines.{Sized, Empty, LineTaken}
+use Rattle.rulebook.specs.inner.Lines.{Sized, Empty, at_line, LineTaken}
 use Rattle.rulebook.specs.declared.Tables.{Tables}
 use Rattle.rulebook.proofs.Grown.{no_tables_lem}
 
@@ -90,25 +93,23 @@ module _ {text : List ℕ} {at i end : ℕ} {cards rules : List ℕ} (turn : Tur
         let s : at + suc (end - at) ≡ end + 1 = omega arith in
         sym turn.so_far ∙ rw (cut_line (drop at text) (omega arith), k, drop-drop (suc (end - at)) at text, s)
 
-    module _ {cards' rules' : List ℕ} {r : ℕ} (taken : LineTaken line cards rules r cards' rules') where
-      pub line_refused : (r ≡ 0 → ⊥) → opening text ≡ refused r i
-      line_refused z = line_first ∙ rw (sym (taken.answer i), ne_eqb r 0 z)
-
-      pub line_read : r ≡ 0 → open_from text (end + 1) (i + 1) (book_of cards' rules') ≡ opening text
-      line_read z = sym (line_first ∙ rw (sym (taken.answer i), z))
+    -- m: the line's result with its number
+    pub line_says : {r : Result (Unit {0}) Reason} {cards' rules' : List ℕ} → LineTaken line cards rules r cards' rules' → (m : Result (Unit {0}) Refusal) → m ≡ at_line i r
+        → opening text ≡ and_then (answer_of (book_of cards' rules') m) (λ b. open_from text (end + 1) (i + 1) b)
+    line_says taken m e = line_first ∙ rw (sym (taken.answer i), e)
 
 -- ---- what `read` returns
 
 pub empty : Empty no_tables.cards no_tables.rules
 empty = record { no_cards = refl; no_rules = refl }
 
-pub reads_refused : {text : List ℕ} {n i : ℕ} → opening text ≡ refused n i → Reads (record { answer = Refused n i; tables = no_tables }) text
+pub reads_refused : {text : List ℕ} {r : Refusal} → opening text ≡ refused (number_of r.reason) r.place → Reads (Err r) text
 unfolding model.opened_book
-reads_refused o = record { answer = sym o; book = rw o (no_tables_lem empty); cleared = λ n i e. refl }
+reads_refused o = record { answer = sym o; book = rw o (no_tables_lem empty) }
 
-pub reads_done : {text : List ℕ} {t : Tables} → opening text ≡ ok (book_of t.cards t.rules) → Reads (record { answer = Done; tables = t }) text
+pub reads_done : {text : List ℕ} {t : Tables} → opening text ≡ ok (book_of t.cards t.rules) → Reads (Ok t) text
 unfolding model.opened_book
-reads_done o = record { answer = sym o; book = rw o; cleared = λ n i e. absurd (let z : ◌≡◌ {A = ℕ} 0 1 = cc in omega arith) }
+reads_done o = record { answer = sym o; book = rw o }
 
 pub empty_sized : {cards rules : List ℕ} → Empty cards rules → Sized cards rules
 empty_sized e = record { cards-size = ap length e.no_cards; rules-size = ap length e.no_rules }

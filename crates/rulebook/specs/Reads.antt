@@ -1,24 +1,33 @@
 -- What `read` promises, of a text of any bytes.
-use Rattle.std.specs.Prelude.{◌≡◌, List, ℕ, replicate}
+use Rattle.std.specs.Prelude.{◌≡◌, List, ℕ, replicate, Result, Ok, Err}
+use Rattle.model.specs.Questions.{Answer, ok, refused}
+use Rattle.model.specs.Book.{Book}
 use Rattle.model.specs.Opening.{opening, opened_book}
-use Rattle.answers.specs.View.{answer_of}
-use Rattle.answers.specs.declared.Answer.TheVariants.{Refused}
+use Rattle.answers.specs.View.{number_of}
+use Rattle.answers.specs.declared.Refusal.{Refusal}
 use Rattle.rulebook.specs.Layout.{card_table_size, rule_table_size}
 use Rattle.rulebook.specs.View.{book_of}
 use Rattle.rulebook.specs.declared.Tables.{Tables}
-use Rattle.rulebook.specs.declared.Reading.{Reading}
 
 -- tables that are all zero: a book without cards
 abbrev pub no_tables : Tables
 no_tables = record { cards = replicate card_table_size 0; rules = replicate rule_table_size 0 }
 
--- The answer is the opening's, which tells the book of the tables; the tables hold the book that is in force after it; a refused
--- text leaves those of the empty one.
-pub record Reads (r : Reading) (text : List ℕ) : Type 0 where
-  pub answer : answer_of (book_of r.tables.cards r.tables.rules) r.answer ≡ opening text
-  pub book : book_of r.tables.cards r.tables.rules ≡ opened_book text
-  pub cleared : (number line : ℕ) → r.answer ≡ Refused number line → r.tables ≡ no_tables
+-- what reading answers: the book of the tables, or the refusal
+abbrev pub read_answer : Result Tables Refusal → Answer Book
+read_answer (Ok t) = ok (book_of t.cards t.rules)
+read_answer (Err r) = refused (number_of r.reason) r.place
+
+-- the tables in force after reading: those of the empty text where it is refused
+abbrev pub tables_after : Result Tables Refusal → Tables
+tables_after (Ok t) = t
+tables_after (Err r) = no_tables
+
+-- The answer is the opening's, which tells the book of the tables; the tables in force hold the book that is in force.
+pub record Reads (result : Result Tables Refusal) (text : List ℕ) : Type 0 where
+  pub answer : read_answer result ≡ opening text
+  pub book : book_of (tables_after result).cards (tables_after result).rules ≡ opened_book text
 
 -- every text has a reading
 abbrev pub EveryTextReads : Type 0
-EveryTextReads = (text : List ℕ) → (r : Reading) × Reads r text
+EveryTextReads = (text : List ℕ) → (r : Result Tables Refusal) × Reads r text

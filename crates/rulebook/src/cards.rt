@@ -9,6 +9,7 @@ ghost use Rattle.rulebook.specs.inner.Lines.{CardTaken};
 
 use crate::layout;
 use crate::layout::CardTable;
+use answers::Reason;
 use forms::CardNumber;
 
 // Whether a card of the table has the number's digits, each compared from the first on.
@@ -35,24 +36,24 @@ fn is_known(number: CardNumber, cards: &CardTable) -> bool
 }
 
 // Questions 2 to 5.
-pub(crate) fn take(line: &[u8], cards: &mut CardTable) -> u8
+pub(crate) fn take(line: &[u8], cards: &mut CardTable) -> Result<(), Reason>
     requires { length cards.old ≡ card_table_size }
     ensures { CardTaken line.now cards.old result cards.new }
 {
     let number = forms::card_number(line);
     // A line that has the form has a digit.
     if number.count == 0 {
-        return answers::NO_FORM;
+        return Err(Reason::NoForm);
     }
     if limits::CARD_LIMIT <= layout::card_count(cards) {
-        return answers::TOO_MANY_CARDS;
+        return Err(Reason::TooManyCards);
     }
     if !forms::is_card_number(number) {
-        return answers::BAD_CARD_NUMBER;
+        return Err(Reason::BadCardNumber);
     }
     if is_known(number, cards) {
-        return answers::CARD_REPEATED;
+        return Err(Reason::CardRepeated);
     }
     layout::add_card(cards, number);
-    0
+    Ok(())
 }

@@ -5,19 +5,20 @@ ghost use Rattle.rulebook.specs.inner.Lines.{GroupTaken};
 
 use crate::layout;
 use crate::layout::CardTable;
+use answers::Reason;
 
 // Questions 2 and 6.
-pub(crate) fn take(line: &[u8], cards: &mut CardTable) -> u8
+pub(crate) fn take(line: &[u8], cards: &mut CardTable) -> Result<(), Reason>
     requires { length cards.old ≡ card_table_size }
     ensures { GroupTaken line.now cards.old result cards.new }
 {
     if !forms::is_group_line(line) {
-        return answers::NO_FORM;
+        return Err(Reason::NoForm);
     }
     let m = letters::number_at(line, 4);
     if layout::card_count(cards) < m {
-        return answers::CARD_NOT_ABOVE;
+        return Err(Reason::CardNotAbove);
     }
     layout::add_member(cards, letters::group(ascii::byte(line, 2)), m);
-    0
+    Ok(())
 }

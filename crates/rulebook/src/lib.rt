@@ -1,7 +1,7 @@
 // A rule text, read into two flat tables or refused with its number and line.
 //
 // `read` keeps the tables in locals and lends them to the functions below it; no line copies one. `take_line` and each `take`
-// below it answer 0, or the number of the first question that the line does not meet, and then leave the tables as they were.
+// below it refuse a line by the first question that it does not meet, and then leave the tables as they were.
 
 #![tactic(auto)]
 
@@ -12,10 +12,9 @@ mod rules;
 mod text;
 
 ghost use Rattle.rulebook.specs.Reads.{no_tables, Reads};
-ghost use Rattle.answers.specs.declared.Answer.TheVariants.{Refused};
 ghost use Rattle.std.specs.Prelude.{◌≡◌};
 
-use answers::Answer;
+use answers::{Reason, Refusal};
 use layout::{CARD_TABLE_SIZE, CardTable, RULE_TABLE_SIZE, RuleTable};
 
 const TEXT_LIMIT: usize = limits::TEXT_LIMIT as usize;
@@ -27,40 +26,30 @@ pub struct Tables {
     pub rules: RuleTable,
 }
 
-// What a text gives: Done and its tables, or a refusal and the tables of the empty text.
-#[derive(Clone, Copy)]
-pub struct Reading {
-    pub answer: Answer,
-    pub tables: Tables,
-}
+impl Tables {
+    ghost use Rattle.model.specs.Book.{no_book};
+    ghost use Rattle.rulebook.specs.View.{book_of};
 
-fn refused(number: u8, line: u32) -> Reading
-    ensures { result ≡ record { answer = Refused number line; tables = no_tables } }
-{
-    Reading {
-        answer: Answer::Refused(number, line),
-        tables: Tables {
+    // The tables of the empty text, and of a refused one: a book without cards.
+    pub fn empty() -> Tables
+        ensures tables { result ≡ no_tables }
+        ensures book { book_of result.cards result.rules ≡ no_book }
+    {
+        Tables {
             cards: [0; CARD_TABLE_SIZE],
             rules: [0; RULE_TABLE_SIZE],
-        },
+        }
     }
 }
 
 // A rule text of any bytes: questions 1 to 7, line by line.
-pub fn read(text: &[u8]) -> Reading
+pub fn read(text: &[u8]) -> Result<Tables, Refusal>
     ensures { Reads result text.now }
 {
     if TEXT_LIMIT < text.len() {
-        return refused(answers::TEXT_TOO_LONG, 0);
+        return Err(Refusal::from(Reason::TextTooLong));
     }
-    let mut cards = [0; CARD_TABLE_SIZE];
-    let mut rules = [0; RULE_TABLE_SIZE];
-    let answer = text::take_lines(text, &mut cards, &mut rules);
-    match answer {
-        Answer::Done => Reading {
-            answer: Answer::Done,
-            tables: Tables { cards, rules },
-        },
-        Answer::Refused(number, line) => refused(number, line),
-    }
+    let mut tables = Tables::empty();
+    text::take_lines(text, &mut tables.cards, &mut tables.rules)?;
+    Ok(tables)
 }

@@ -9,6 +9,7 @@ ghost use Rattle.rulebook.specs.inner.Lines.{RuleTaken};
 
 use crate::layout;
 use crate::layout::{RULE_ROW, RuleRow, RuleTable};
+use answers::Reason;
 use forms::{CONDITION_WIDTH, PRICE_WIDTH, RuleForm};
 
 // The group that a condition asks for, by its mark and the byte after it: 0 for ` = z z`.
@@ -85,22 +86,22 @@ fn row_of(line: &[u8], form: RuleForm) -> RuleRow
 }
 
 // Questions 2, 6 and 7, over so many declared cards.
-pub(crate) fn take(line: &[u8], declared: u8, rules: &mut RuleTable) -> u8
+pub(crate) fn take(line: &[u8], declared: u8, rules: &mut RuleTable) -> Result<(), Reason>
     requires { length rules.old ≡ rule_table_size }
     ensures { RuleTaken line.now declared rules.old result rules.new }
 {
     let form = forms::rule_form(line);
     if !form.formed {
-        return answers::NO_FORM;
+        return Err(Reason::NoForm);
     }
     let owner = letters::number_at(line, 2);
     if declared < owner {
-        return answers::CARD_NOT_ABOVE;
+        return Err(Reason::CardNotAbove);
     }
     if limits::RULE_LIMIT <= layout::rule_count(rules) {
-        return answers::TOO_MANY_RULES;
+        return Err(Reason::TooManyRules);
     }
     let row = row_of(line, form);
     layout::add_rule(rules, &row);
-    0
+    Ok(())
 }

@@ -8,10 +8,10 @@ ghost use Rattle.rulebook.specs.inner.Lines.{Sized, Empty, LineTaken};
 
 use crate::layout::{CardTable, RuleTable};
 use crate::{cards, groups, layout, rules};
-use answers::Answer;
+use answers::{Reason, Refusal};
 
 // One line, without its LF: the first letter decides its form.
-fn take_line(line: &[u8], cards: &mut CardTable, rules: &mut RuleTable) -> u8
+fn take_line(line: &[u8], cards: &mut CardTable, rules: &mut RuleTable) -> Result<(), Reason>
     requires { Sized cards.old rules.old }
     ensures { LineTaken line.now cards.old rules.old result cards.new rules.new }
 {
@@ -20,12 +20,16 @@ fn take_line(line: &[u8], cards: &mut CardTable, rules: &mut RuleTable) -> u8
         b'C' => cards::take(line, cards),
         b'G' => groups::take(line, cards),
         b'R' => rules::take(line, layout::card_count(cards), rules),
-        _ => answers::NO_FORM,
+        _ => Err(Reason::NoForm),
     }
 }
 
 // Each line of a text, into empty tables, up to the first that is refused.
-pub(crate) fn take_lines(text: &[u8], cards: &mut CardTable, rules: &mut RuleTable) -> Answer
+pub(crate) fn take_lines(
+    text: &[u8],
+    cards: &mut CardTable,
+    rules: &mut RuleTable,
+) -> Result<(), Refusal>
     requires { (length text.now ≤ text_limit) × (Empty cards.old rules.old) }
     ensures { answer_of (book_of cards.new rules.new) result ≡ opening text.now }
 {
@@ -34,15 +38,12 @@ pub(crate) fn take_lines(text: &[u8], cards: &mut CardTable, rules: &mut RuleTab
     while at < text.len() {
         let end = ascii::find(text, at, b'\n');
         if end == text.len() {
-            return Answer::Refused(answers::NO_FORM, line);
+            return Err(Reason::NoForm.at(line));
         }
         let w = &text[at..end];
-        let refusal = take_line(w, cards, rules);
-        if refusal != 0 {
-            return Answer::Refused(refusal, line);
-        }
+        take_line(w, cards, rules).map_err(|reason| reason.at(line))?;
         at = end + 1;
         line += 1;
     }
-    Answer::Done
+    Ok(())
 }

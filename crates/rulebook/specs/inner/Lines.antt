@@ -1,11 +1,13 @@
 -- What a line leaves in the tables that are lent to the functions that take it.
-use Rattle.std.specs.Prelude.{not, cond, ◌≡◌, List, [], ◌∷◌, ℕ, eqb, ltb, length, get_or, replicate}
+use Rattle.std.specs.Prelude.{not, ◌≡◌, List, [], ◌∷◌, ℕ, ltb, length, get_or, replicate, Result, Ok, Err, OnOk, OnErr}
 use Rattle.model.specs.Limits.{card_limit, rule_limit}
 use Rattle.model.specs.Lists.{within, any, eq_list}
-use Rattle.model.specs.Questions.{Answer, ok, refused, Question, ◌unless◌, first_unmet}
+use Rattle.model.specs.Questions.{Question, ◌unless◌, first_unmet}
 use Rattle.model.specs.Reader.{group_of, number_at, is_card_line, card_read, is_group_line, is_rule_line}
-use Rattle.model.specs.Book.{Book}
 use Rattle.model.specs.Opening.{card_digits, is_card_number, open_line}
+use Rattle.answers.specs.View.{answer_of, number_of}
+use Rattle.answers.specs.declared.Reason.{Reason}
+use Rattle.answers.specs.declared.Refusal.{Refusal}
 use Rattle.rulebook.specs.Layout.{card_table_size, rule_table_size}
 use Rattle.rulebook.specs.View.{card_count, rule_count, cards_of, book_of}
 use Rattle.rulebook.specs.inner.Rows.{row_of}
@@ -28,20 +30,25 @@ rule_questions cards rules w = (2 unless is_rule_line w) ∷ (6 unless within (n
 
 -- ---- what a line leaves in a table
 
--- the number of the first question that is not met, or 0; then something is added, and otherwise the table is as it was
-pub record AddedUnless (questions : List Question) (Added : List ℕ → Type 0) (refusal : ℕ) (table table' : List ℕ) : Type 0 where
-  pub refusal_is : refusal ≡ first_unmet questions
-  pub added : refusal ≡ 0 → Added table'
-  pub kept : (refusal ≡ 0 → ⊥) → table' ≡ table
+-- a refused line's number; 0 of one that is taken
+abbrev pub number_in : Result (Unit {0}) Reason → ℕ
+number_in (Ok _) = 0
+number_in (Err reason) = number_of reason
 
-pub record CardTaken (w cards : List ℕ) (refusal : ℕ) (cards' : List ℕ) : Type 0 where
-  pub asked : AddedUnless (card_questions (cards_of cards) w) (CardAdded (card_digits (card_read w)) cards) refusal cards cards'
+-- refused by the first question that is not met, and then the table is as it was; otherwise something is added
+pub record AddedUnless (questions : List Question) (Added : List ℕ → Type 0) (result : Result (Unit {0}) Reason) (table table' : List ℕ) : Type 0 where
+  pub first : number_in result ≡ first_unmet questions
+  pub added : OnOk result (Added table')
+  pub kept : OnErr result (table' ≡ table)
 
-pub record GroupTaken (w cards : List ℕ) (refusal : ℕ) (cards' : List ℕ) : Type 0 where
-  pub asked : AddedUnless (group_questions (card_count cards) w) (MemberAdded (group_of (get_or w 2 0)) (number_at w 4) cards) refusal cards cards'
+pub record CardTaken (w cards : List ℕ) (result : Result (Unit {0}) Reason) (cards' : List ℕ) : Type 0 where
+  pub asked : AddedUnless (card_questions (cards_of cards) w) (CardAdded (card_digits (card_read w)) cards) result cards cards'
 
-pub record RuleTaken (w : List ℕ) (cards : ℕ) (rules : List ℕ) (refusal : ℕ) (rules' : List ℕ) : Type 0 where
-  pub asked : AddedUnless (rule_questions cards (rule_count rules) w) (RuleAdded (row_of w) rules) refusal rules rules'
+pub record GroupTaken (w cards : List ℕ) (result : Result (Unit {0}) Reason) (cards' : List ℕ) : Type 0 where
+  pub asked : AddedUnless (group_questions (card_count cards) w) (MemberAdded (group_of (get_or w 2 0)) (number_at w 4) cards) result cards cards'
+
+pub record RuleTaken (w : List ℕ) (cards : ℕ) (rules : List ℕ) (result : Result (Unit {0}) Reason) (rules' : List ℕ) : Type 0 where
+  pub asked : AddedUnless (rule_questions cards (rule_count rules) w) (RuleAdded (row_of w) rules) result rules rules'
 
 -- ---- any line
 
@@ -55,11 +62,12 @@ pub record Empty (cards rules : List ℕ) : Type 0 where
   pub no_cards : cards ≡ replicate card_table_size 0
   pub no_rules : rules ≡ replicate rule_table_size 0
 
--- the answer of line i that is refused with this number, or taken into the book
-abbrev pub line_answer : ℕ → ℕ → Book → Answer Book
-line_answer refusal i b = cond (eqb refusal 0) (ok b) (refused refusal i)
+-- a refusal with its line's number
+abbrev pub at_line : ℕ → Result (Unit {0}) Reason → Result (Unit {0}) Refusal
+at_line i (Ok taken) = Ok taken
+at_line i (Err reason) = Err (record { reason = reason; place = i })
 
 -- the line's answer over the book of the tables
-pub record LineTaken (w cards rules : List ℕ) (refusal : ℕ) (cards' rules' : List ℕ) : Type 0 where
-  pub answer : (i : ℕ) → line_answer refusal i (book_of cards' rules') ≡ open_line i (book_of cards rules) w
+pub record LineTaken (w cards rules : List ℕ) (result : Result (Unit {0}) Reason) (cards' rules' : List ℕ) : Type 0 where
+  pub answer : (i : ℕ) → answer_of (book_of cards' rules') (at_line i result) ≡ open_line i (book_of cards rules) w
   pub sized : Sized cards' rules'

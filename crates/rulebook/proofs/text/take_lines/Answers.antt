@@ -2,7 +2,8 @@
 use mathlib.Core.Path.{sym}
 use Prim.Native.Nat.{◌<◌}
 use lib.ListN.{length}
-use Rattle.rulebook.proofs.Texts.{starts, empty_sized, all_read, Turn, no-LF, line_refused, line_read}
+use Rattle.std.proofs.lemmas.Result.{err_from_is_err_and}
+use Rattle.rulebook.proofs.Texts.{starts, empty_sized, all_read, Turn, no-LF, line_says}
 use borrow.Author.Rules.{rules}
 use Rattle.rulebook.proofs.text.take_lines.Goals as goal
 use Rattle.rulebook.proofs.text.take_lines.Goals.{After-find-end, Else-end-text}
@@ -21,15 +22,18 @@ has_lf c = search rules
 
 -- ---- the goals
 pub returns-then-end-text : goal.returns-then-end-text
-returns-then-end-text c = sym (no-LF (turn (goal.at.returns-then-end-text c).After-find-end) c.if-end-text.true)
+returns-then-end-text c = rw c.at.ensures (sym (no-LF (turn (goal.at.returns-then-end-text c).After-find-end) c.if-end-text.true))
 
-pub returns-then-refusal-ne0 : goal.returns-then-refusal-ne0
-returns-then-refusal-ne0 c =
-    sym (line_refused (turn (goal.at.returns-then-refusal-ne0 c).After-find-end) (has_lf (goal.at.returns-then-refusal-ne0 c).Else-end-text) c.take_line-refusal.ensures c.if-refusal-ne0.true)
+pub returns-in_err-map_err : goal.returns-in_err-map_err
+returns-in_err-map_err c =
+    let at = goal.at.returns-in_err-map_err c in
+    let p = err_from_is_err_and c.from_residual.result c.from_residual.ensures.1 in
+    rw (p.1, p.2) (sym (rw c.in_err-map_err.was at (line_says (turn at.After-find-end) (has_lf at.Else-end-text) c.take_line.ensures c.map_err.result (search rules))))
 
 pub loop-at-preserved : goal.loop-at-preserved
 loop-at-preserved c =
-    (search rules, search rules, c.take_line-refusal.ensures.sized, line_read (turn (goal.at.loop-at-preserved c).After-find-end) (has_lf (goal.at.loop-at-preserved c).Else-end-text) c.take_line-refusal.ensures c.if-refusal-ne0.false)
+    let at = goal.at.loop-at-preserved c in
+    (search rules, search rules, c.take_line.ensures.sized, sym (rw c.in_ok-map_err.was at (line_says (turn at.After-find-end) (has_lf at.Else-end-text) c.take_line.ensures c.map_err.result (search rules))))
 
 pub returns : goal.returns
 returns c = sym (all_read _ c.loop-at.at c.loop-at.line _ c.loop-at.invariant.3 (search rules))
