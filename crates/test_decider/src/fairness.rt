@@ -1,47 +1,70 @@
 // A decider of fairness for 01's book that takes nothing from the engine: definitions 3.5 and 3.7, followed by recursion.
-//
-// An exchange is three transfers of giver, kind and receiver, one after the other; one that is not there, or was taken, has the giver 0.
-ghost use Rattle.std.specs.Prelude.{◌≤◌};
 
-// A transfer, if it is there.
+#[derive(Clone, Copy, PartialEq, Eq)]
+pub(crate) struct Transfer {
+    pub(crate) giver: u8,
+    pub(crate) kind: u8,
+    pub(crate) receiver: u8,
+}
+
+// Three transfers at most; None is one that is not there, or was taken.
+pub(crate) type Exchange = [Option<Transfer>; 3];
+
+// Whose card a place in a price names.
 #[derive(Clone, Copy)]
-struct Transfer {
-    there: bool,
-    giver: u8,
+enum Place {
+    Owner,
+    A,
+    B,
+}
+
+#[derive(Clone, Copy)]
+enum Condition {
+    // = a *
+    OwnersIssuer,
+    // ? 1 b
+    InGroup1,
+}
+
+// A rule with its one price: from a card, tokens of a kind, to a card.
+#[derive(Clone, Copy)]
+struct Rule {
+    owner: u8,
     kind: u8,
-    receiver: u8,
+    price: (Place, u8, Place),
+    condition: Option<Condition>,
 }
 
-// What is left of an exchange once a transfer is taken from it, if it was found.
+// The cards of an approval.
 #[derive(Clone, Copy)]
-struct Taken {
-    found: bool,
-    left: [u8; 9],
+struct Cards {
+    owner: u8,
+    a: u8,
+    b: u8,
 }
 
-// What is left once an approval's head and price are claimed: of the exchange for the card itself, and of the exchange for the prices of all
-// cards together.
+// What is left once heads and prices are claimed: of the exchange for the heads and prices of each card, and of the exchange for the prices
+// of all cards together.
 #[derive(Clone, Copy)]
-struct Claimed {
-    good: bool,
-    own: [u8; 9],
-    free: [u8; 9],
+struct Left {
+    own: [Exchange; 3],
+    free: Exchange,
 }
 
-// The book's rules: owner, kind; its one price's giver, kind, receiver, where 0 is the owner, 1 the card for a, 2 the card for b; and its
-// condition, where 0 is none, 1 is = a *, 2 is ? 1 b.
-fn rule(number: u8) -> [u8; 6] {
-    match number {
-        1 => [1, 1, 2, 3, 0, 0],
-        2 => [2, 2, 2, 1, 0, 0],
-        3 => [3, 3, 2, 2, 0, 0],
-        4 => [2, 2, 1, 4, 0, 1],
-        5 => [3, 4, 2, 2, 0, 0],
-        6 => [1, 2, 1, 4, 2, 2],
-        7 => [1, 1, 2, 4, 0, 0],
-        8 => [2, 4, 1, 1, 0, 0],
-        _ => [0, 0, 0, 0, 0, 0],
-    }
+// The book's rules.
+fn rules() -> [Rule; 8] {
+    use Condition::{InGroup1, OwnersIssuer};
+    use Place::{A, B, Owner};
+    [
+        Rule::new(1, 1, (B, 3, Owner), None),
+        Rule::new(2, 2, (B, 1, Owner), None),
+        Rule::new(3, 3, (B, 2, Owner), None),
+        Rule::new(2, 2, (A, 4, Owner), Some(OwnersIssuer)),
+        Rule::new(3, 4, (B, 2, Owner), None),
+        Rule::new(1, 2, (A, 4, B), Some(InGroup1)),
+        Rule::new(1, 1, (B, 4, Owner), None),
+        Rule::new(2, 4, (A, 1, Owner), None),
+    ]
 }
 
 // The issuer prefix: a card's first six digits.
@@ -56,105 +79,89 @@ fn in_group_1(card: u8) -> bool {
     card == 2
 }
 
-fn condition_holds(condition: u8, owner: u8, a: u8, b: u8) -> bool {
-    match condition {
-        1 => issuer(a) == issuer(owner),
-        2 => in_group_1(b),
-        _ => true,
+impl Cards {
+    fn at(self, place: Place) -> u8 {
+        match place {
+            Place::Owner => self.owner,
+            Place::A => self.a,
+            Place::B => self.b,
+        }
+    }
+
+    fn meet(self, condition: Condition) -> bool {
+        match condition {
+            Condition::OwnersIssuer => issuer(self.a) == issuer(self.owner),
+            Condition::InGroup1 => in_group_1(self.b),
+        }
     }
 }
 
-// The card that a place in a price names.
-fn named(place: u8, owner: u8, a: u8, b: u8) -> u8 {
-    match place {
-        0 => owner,
-        1 => a,
-        _ => b,
+impl Rule {
+    fn new(owner: u8, kind: u8, price: (Place, u8, Place), condition: Option<Condition>) -> Rule {
+        Rule {
+            owner,
+            kind,
+            price,
+            condition,
+        }
     }
-}
 
-// The head at a step, if the card gives it: step 3 c + i is transfer i for card c + 1.
-fn head(x: [u8; 9], step: usize) -> Transfer
-    requires { step ≤ 8 }
-{
-    let card = (step / 3 + 1) as u8;
-    let at = step % 3 * 3;
-    Transfer {
-        there: x[at] == card,
-        giver: card,
-        kind: x[at + 1],
-        receiver: x[at + 2],
+    // The price of the approval with this head and this card for b, if there is this approval.
+    fn price(self, head: Transfer, b: u8) -> Option<Transfer> {
+        let owner = head.giver;
+        let a = head.receiver;
+        let cards = Cards { owner, a, b };
+        let (from, kind, to) = self.price;
+        let giver = cards.at(from);
+        let receiver = cards.at(to);
+        let heads = self.owner == owner && self.kind == head.kind && owner != a;
+        let pays = giver != receiver && giver != owner;
+        let holds = self.condition.is_none_or(|condition| cards.meet(condition));
+        (heads && pays && holds).then_some(Transfer {
+            giver,
+            kind,
+            receiver,
+        })
     }
-}
 
-// The price of the approval with this head by rule choice / 3 + 1 and b = choice % 3 + 1, if there is this approval.
-fn price(head: Transfer, choice: u8) -> Transfer {
-    let row = rule(choice / 3 + 1);
-    let owner = head.giver;
-    let a = head.receiver;
-    let b = choice % 3 + 1;
-    let giver = named(row[2], owner, a, b);
-    let receiver = named(row[4], owner, a, b);
-    let heads = row[0] == owner && row[1] == head.kind && owner != a;
-    let pays = giver != receiver && giver != owner;
-    Transfer {
-        there: heads && pays && condition_holds(row[5], owner, a, b),
-        giver,
-        kind: row[3],
-        receiver,
+    // With each card for b.
+    fn prices(self, head: Transfer) -> [Option<Transfer>; 3] {
+        [1, 2, 3].map(|b| self.price(head, b))
     }
 }
 
 // One such transfer taken away, if there is one.
-fn take(from: [u8; 9], wanted: Transfer) -> Taken {
+fn take(from: Exchange, wanted: Transfer) -> Option<Exchange> {
+    let at = from.iter().position(|left| *left == Some(wanted))?;
     let mut left = from;
-    for i in 0..3 {
-        let at = i * 3;
-        if left[at] == wanted.giver
-            && left[at + 1] == wanted.kind
-            && left[at + 2] == wanted.receiver
-        {
-            left[at] = 0;
-            return Taken { found: true, left };
-        }
-    }
-    Taken { found: false, left }
+    left[at] = None;
+    Some(left)
 }
 
-// The approval's head and price claimed for the card, and its price among the prices of all cards.
-fn claim(head: Transfer, choice: u8, own: [u8; 9], free: [u8; 9]) -> Claimed {
-    let price = price(head, choice);
-    let given = take(own, head);
-    let paid = take(given.left, price);
-    let asked = take(free, price);
-    let own = paid.left;
-    let free = asked.left;
-    Claimed {
-        good: price.there && given.found && paid.found && asked.found,
-        own,
-        free,
+impl Left {
+    // Less the head and the price of an approval of the head's giver.
+    fn claim(self, head: Transfer, price: Transfer) -> Option<Left> {
+        let mut left = self;
+        let card = usize::from(head.giver).checked_sub(1)?;
+        let own = left.own.get_mut(card)?;
+        *own = take(take(*own, head)?, price)?;
+        left.free = take(left.free, price)?;
+        Some(left)
     }
 }
 
-// Whether the cards accept the exchange from this step on, where the card of the step has `own` left of it, and `free` is left of it once
-// all prices so far are taken away.
-fn accepted(x: [u8; 9], step: usize, own: [u8; 9], free: [u8; 9]) -> bool
-    requires { step ≤ 9 }
-{
-    if step == 9 {
+// Whether the cards accept their transfers among these, of an exchange of which so much is left.
+fn accepted(heads: &[Option<Transfer>], left: Left) -> bool {
+    let Some((first, later)) = heads.split_first() else {
         return true;
-    }
-    let head = head(x, step);
-    // each card starts from the whole exchange
-    let left = if step % 3 == 0 { x } else { own };
-    if !head.there {
-        return accepted(x, step + 1, left, free);
-    }
-    for choice in 0..24 {
-        let claimed = claim(head, choice, left, free);
-        let own_rest = claimed.own;
-        let free_rest = claimed.free;
-        if claimed.good && accepted(x, step + 1, own_rest, free_rest) {
+    };
+    let Some(head) = *first else {
+        return accepted(later, left);
+    };
+    for price in rules().iter().flat_map(|rule| rule.prices(head)).flatten() {
+        if let Some(rest) = left.claim(head, price)
+            && accepted(later, rest)
+        {
             return true;
         }
     }
@@ -162,6 +169,10 @@ fn accepted(x: [u8; 9], step: usize, own: [u8; 9], free: [u8; 9]) -> bool
 }
 
 // Whether the exchange is fair.
-pub(crate) fn fair(x: [u8; 9]) -> bool {
-    accepted(x, 0, x, x)
+pub(crate) fn fair(x: Exchange) -> bool {
+    let left = Left {
+        own: [x; 3],
+        free: x,
+    };
+    accepted(&x, left)
 }

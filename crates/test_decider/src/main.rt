@@ -5,6 +5,16 @@
 mod fairness;
 mod family;
 
-fn main(rt: HostRuntime) {
-    family::agrees(&rt);
+use std::io;
+
+// One line with the counts; a disagreement between the two is a mistake in one of them.
+fn main(rt: HostRuntime) -> io::Result<()> {
+    let verdicts = family::verdicts(rt.alloc())?;
+    let exchanges = verdicts.len();
+    let fair = verdicts.iter().filter(|verdict| verdict.fair).count();
+    let disagreements = verdicts
+        .iter()
+        .filter(|verdict| verdict.fair != verdict.settled)
+        .count();
+    println!(rt; "family: {exchanges} exchanges, {fair} fair, {disagreements} disagreements")
 }

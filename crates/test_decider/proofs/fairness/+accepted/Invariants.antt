@@ -1,6 +1,6 @@
--- The steps that are left fall at each call.
-use Rattle.std.proofs.Common.{◌-◌}
+-- Each call has fewer heads to go.
+use Rattle.std.proofs.Common.{length}
 use Rattle.test_decider.proofs.fairness.+accepted.Given as goal
 
 abbrev pub decreases-accepted : goal.decreases-accepted
-decreases-accepted l = 9 - l.step
+decreases-accepted l = length l.heads.now
