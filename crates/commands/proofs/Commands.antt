@@ -24,7 +24,6 @@ use Rattle.commands.specs.Reader.{then_read, is_digit, read_number, is_hexadecim
 use Rattle.commands.specs.Reader.{read_two, read_three, read_settle, read_form, read_command}
 use Rattle.commands.proofs.Decimals.{decimal-digits, number-printed, number-taken}
 use Rattle.commands.proofs.Pairs.{word-printed, word-taken}
-use Rattle.commands.proofs.Readings.{three_all, settle_both, form-I, form-D, form-H, form-S}
 
 -- ---- words without a space
 
@@ -79,27 +78,23 @@ number-last n l = rw (append-nil (decimal n)) (number-printed n l)
 
 three_printed : (f : ℕ → ℕ → ℕ → Call) (m k n : ℕ) → m ≤ number_most → k ≤ number_most → n ≤ number_most
     → read_three f (decimal m ++ (code " " ∷ (decimal k ++ (code " " ∷ (decimal n ++ []))))) ≡ some (f m k n)
-three_printed f m k n a b c = three_all f _ _ (number_first m _ a) _ (number_first k _ b) n (number-last n c)
+unfolding read_three
+three_printed f m k n a b c = rw (number_first m _ a, number_first k _ b, number-last n c)
+
+settle_printed : (e p : List ℕ) → T (every is_byte e) → T (every is_byte p)
+    → read_settle (hexadecimal e ++ (code " " ∷ (hexadecimal p ++ []))) ≡ some (settle e p)
+unfolding read_settle
+settle_printed e p t u =
+    let x = word-printed e t in
+    let y = word-printed p u in
+    rw (first_printed (hexadecimal e) (hexadecimal p ++ []) (hexadecimal_solid e), append-nil (hexadecimal p), T-eq _ x.0, T-eq _ y.0, x.1, y.1)
 
 pub printed_read : (c : Call) → T (well_formed_call c) → read_command (print_command c) ≡ some c
-unfolding read_two
-printed_read (issue m k n) t =
-    let l = simp facts at t in
-    form-I (print_command (issue m k n)) refl refl ∙ three_printed issue m k n l.0 l.1.0 l.1.1
-printed_read (redeem m k n) t =
-    let l = simp facts at t in
-    form-D (print_command (redeem m k n)) refl refl ∙ three_printed redeem m k n l.0 l.1.0 l.1.1
-printed_read (query m k) t =
-    let l = simp facts at t in
-    form-H (print_command (query m k)) refl refl ∙ rw (number_first m (decimal k ++ []) l.0, number-last k l.1)
-printed_read (settle e p) t =
-    let f = both (every is_byte e) (every is_byte p) t in
-    let x = word-printed e f.0 in
-    let y = word-printed p f.1 in
-    let z = append-nil (hexadecimal p) in
-    form-S (print_command (settle e p)) refl refl
-    ∙ settle_both _ _ (first_printed (hexadecimal e) (hexadecimal p ++ []) (hexadecimal_solid e)) (T-eq _ x.0) (rw z (T-eq _ y.0))
-    ∙ rw (z, x.1, y.1)
+unfolding read_command read_form read_two
+printed_read (issue m k n) t = let l = simp facts at t in three_printed issue m k n l.0 l.1.0 l.1.1
+printed_read (redeem m k n) t = let l = simp facts at t in three_printed redeem m k n l.0 l.1.0 l.1.1
+printed_read (query m k) t = let l = simp facts at t in rw (number_first m (decimal k ++ []) l.0, number-last k l.1)
+printed_read (settle e p) t = let f = both (every is_byte e) (every is_byte p) t in settle_printed e p f.0 f.1
 
 -- ---- read, so printed
 

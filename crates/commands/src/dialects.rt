@@ -2,7 +2,7 @@
 ghost use Rattle.std.specs.Prelude.{◌≡◌};
 ghost use Rattle.commands.specs.Dialects.{is_scope_letter, admits, command_in};
 ghost use Rattle.commands.specs.Dialects as dialects;
-ghost use Rattle.commands.specs.View.{ReadAs};
+ghost use Rattle.commands.specs.View.{read_as, command_of};
 
 use crate::{Command, Dialect, lines};
 
@@ -32,30 +32,25 @@ pub fn thawcroft() -> Dialect
 fn is_scope_letter(letter: u8) -> bool
     ensures { result ≡ is_scope_letter letter }
 {
-    match letter {
-        b'I' => true,
-        b'D' => true,
-        b'H' => true,
-        b'S' => true,
-        _ => false,
-    }
+    matches!(letter, b'I' | b'D' | b'H' | b'S')
 }
 
+#[tactic(auto, unfolding(crate::specs::Dialects::admits))]
 fn admits(dialect: Dialect, line: &[u8]) -> bool
     ensures { result ≡ admits dialect line.now }
 {
-    if (dialect.longest as usize) < line.len() {
-        return false;
-    }
-    dialect.full | is_scope_letter(ascii::byte(line, 0))
+    line.len() <= dialect.longest as usize
+        && (dialect.full || is_scope_letter(ascii::byte(line, 0)))
 }
 
 // What a line commands in a dialect, for any bytes: a line that is too long is ill-formed, and a command that the dialect does not have.
-pub fn read_in(dialect: Dialect, line: &[u8]) -> Command
-    ensures { ReadAs line.now (command_in dialect line.now) result }
+#[tactic(auto, unfolding(crate::specs::Dialects::command_in))]
+pub fn read_in(dialect: Dialect, line: &[u8]) -> Option<Command<'_>>
+    ensures { read_as command_of result ≡ command_in dialect line.now }
 {
-    if !admits(dialect, line) {
-        return Command::Bad;
+    if admits(dialect, line) {
+        lines::read(line)
+    } else {
+        None
     }
-    lines::read(line)
 }

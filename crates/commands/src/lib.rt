@@ -19,32 +19,17 @@ pub use replies::{put_bad, put_book, put_refused, put_reply};
 pub const ANSWER_SIZE: usize = 32;
 
 // How many bytes a line may have without its LF, and whether every command is answered or document 01's alone.
-#[derive(Clone, Copy)]
+#[derive(Clone, Copy, Debug, PartialEq, Eq)]
 pub struct Dialect {
     pub longest: u32,
     pub full: bool,
 }
 
-// A word's place in a line: where its first byte is, and the place after its last.
-#[derive(Clone, Copy)]
-pub struct Place {
-    pub from: usize,
-    pub to: usize,
-}
-
-// A settlement's two words of hexadecimal; `unhex` gives their bytes.
-#[derive(Clone, Copy)]
-pub struct Words {
-    pub exchange: Place,
-    pub proof: Place,
-}
-
-#[derive(Clone, Copy)]
-pub enum Command {
-    Issue(u32, u32, u32),
-    Redeem(u32, u32, u32),
-    Query(u32, u32),
-    Settle(Words),
-    // An ill-formed line.
-    Bad,
+// What a line commands. A settlement's words of hexadecimal are the line's own; `unhex` gives their bytes.
+#[derive(Clone, Copy, Debug, PartialEq, Eq)]
+pub enum Command<'a> {
+    Issue { card: u32, kind: u32, count: u32 },
+    Redeem { card: u32, kind: u32, count: u32 },
+    Query { card: u32, kind: u32 },
+    Settle { exchange: &'a [u8], proof: &'a [u8] },
 }

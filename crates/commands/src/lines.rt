@@ -1,123 +1,84 @@
 // A command line by its first letter; its words are one space apart.
-ghost use Rattle.std.specs.Prelude.{◌≡◌, ℕ, ◌≤◌, length, drop};
+ghost use Rattle.std.specs.Prelude.{◌≡◌, ℕ};
 ghost use Rattle.model.specs.Calls.{Call};
-ghost use Rattle.commands.specs.Reader.{first_number, read_three, read_two, read_settle, read_command};
-ghost use Rattle.commands.specs.View.{ReadAs};
-ghost use Rattle.commands.specs.inner.Parts.{leading_of, Goes, triple_of};
+ghost use Rattle.commands.specs.Reader.{first_word, first_number, read_three, read_two, read_settle, read_command};
+ghost use Rattle.commands.specs.View.{read_as, command_of};
+ghost use Rattle.commands.specs.inner.Parts.{split_of, numbered_of, call_of_three};
 
-use crate::numbers::Number;
-use crate::{Command, Place, Words, hexadecimal, numbers};
+use crate::{Command, hexadecimal, numbers};
 
-// The words follow the letter and its space.
-const BODY: usize = 2;
-
-// A number before a space, and the place after the space.
-#[derive(Clone, Copy)]
-enum Leading {
-    Number(u32, usize),
-    Missing,
-}
-
-#[derive(Clone, Copy)]
-enum Triple {
-    Are(u32, u32, u32),
-    Missing,
-}
-
-fn first_number(line: &[u8], at: usize) -> Leading
-    requires { at ≤ length line.now }
-    ensures { (leading_of line.now result ≡ first_number (drop at line.now)) × Goes line.now result }
+// What comes before the first space, and after it.
+#[tactic(auto, unfolding(crate::specs::Reader::first_word))]
+fn first_word(text: &[u8]) -> Option<(&[u8], &[u8])>
+    ensures { read_as split_of result ≡ first_word text.now }
 {
-    let end = ascii::find(line, at, b' ');
-    if end == line.len() {
-        return Leading::Missing;
+    let end = ascii::find(text, 0, b' ');
+    if end == text.len() {
+        return None;
     }
-    match numbers::read(&line[at..end]) {
-        Number::Is(value) => Leading::Number(value, end + 1),
-        Number::Missing => Leading::Missing,
-    }
+    Some((&text[..end], &text[end + 1..]))
+}
+
+// A number before the first space, and what follows the space.
+#[tactic(auto, unfolding(crate::specs::Reader::first_number))]
+fn first_number(text: &[u8]) -> Option<(u32, &[u8])>
+    ensures { read_as numbered_of result ≡ first_number text.now }
+{
+    let (word, rest) = first_word(text)?;
+    let number = numbers::read(word)?;
+    Some((number, rest))
 }
 
 // The last number is all that is left of the line, so a space in it makes it none.
-fn three_numbers(line: &[u8]) -> Triple
-    requires { 2 ≤ length line.now }
-    ensures { (f : ℕ → ℕ → ℕ → Call) → triple_of f result ≡ read_three f (drop 2 line.now) }
+#[tactic(auto, unfolding(crate::specs::Reader::read_three))]
+fn three_numbers(text: &[u8]) -> Option<(u32, u32, u32)>
+    ensures { (f : ℕ → ℕ → ℕ → Call) → read_as (call_of_three f) result ≡ read_three f text.now }
 {
-    let Leading::Number(m, at) = first_number(line, BODY) else {
-        return Triple::Missing;
-    };
-    let Leading::Number(k, next) = first_number(line, at) else {
-        return Triple::Missing;
-    };
-    let Number::Is(n) = numbers::read(&line[next..]) else {
-        return Triple::Missing;
-    };
-    Triple::Are(m, k, n)
+    let (card, after_card) = first_number(text)?;
+    let (kind, after_kind) = first_number(after_card)?;
+    let count = numbers::read(after_kind)?;
+    Some((card, kind, count))
 }
 
-fn query(line: &[u8]) -> Command
-    requires { 2 ≤ length line.now }
-    ensures { ReadAs line.now (read_two (drop 2 line.now)) result }
+#[tactic(auto, unfolding(crate::specs::Reader::read_two))]
+fn query(text: &[u8]) -> Option<Command<'_>>
+    ensures { read_as command_of result ≡ read_two text.now }
 {
-    let Leading::Number(m, at) = first_number(line, BODY) else {
-        return Command::Bad;
-    };
-    let Number::Is(k) = numbers::read(&line[at..]) else {
-        return Command::Bad;
-    };
-    Command::Query(m, k)
+    let (card, after_card) = first_number(text)?;
+    let kind = numbers::read(after_card)?;
+    Some(Command::Query { card, kind })
 }
 
-fn settlement(line: &[u8]) -> Command
-    requires { 2 ≤ length line.now }
-    ensures { ReadAs line.now (read_settle (drop 2 line.now)) result }
+#[tactic(auto, unfolding(crate::specs::Reader::read_settle))]
+fn settlement(text: &[u8]) -> Option<Command<'_>>
+    ensures { read_as command_of result ≡ read_settle text.now }
 {
-    let end = ascii::find(line, BODY, b' ');
-    let len = line.len();
-    if end == len {
-        return Command::Bad;
+    let (exchange, proof) = first_word(text)?;
+    if hexadecimal::is_hexadecimal(exchange) && hexadecimal::is_hexadecimal(proof) {
+        return Some(Command::Settle { exchange, proof });
     }
-    let next = end + 1;
-    if !hexadecimal::is_hexadecimal(&line[BODY..end]) {
-        return Command::Bad;
-    }
-    if !hexadecimal::is_hexadecimal(&line[next..]) {
-        return Command::Bad;
-    }
-    Command::Settle(Words {
-        exchange: Place {
-            from: BODY,
-            to: end,
-        },
-        proof: Place {
-            from: next,
-            to: len,
-        },
-    })
+    None
 }
 
-// What a line commands, for any bytes.
-pub fn read(line: &[u8]) -> Command
-    ensures { ReadAs line.now (read_command line.now) result }
+// What a line commands, for any bytes: none is an ill-formed line.
+#[tactic(auto, unfolding(crate::specs::Reader::read_command, crate::specs::Reader::read_form))]
+pub fn read(line: &[u8]) -> Option<Command<'_>>
+    ensures { read_as command_of result ≡ read_command line.now }
 {
-    if line.len() < BODY {
-        return Command::Bad;
-    }
-    if line[1] != b' ' {
-        return Command::Bad;
-    }
-    let letter = line[0];
+    let [letter, b' ', text @ ..] = line else {
+        return None;
+    };
     match letter {
-        b'I' => match three_numbers(line) {
-            Triple::Are(m, k, n) => Command::Issue(m, k, n),
-            Triple::Missing => Command::Bad,
-        },
-        b'D' => match three_numbers(line) {
-            Triple::Are(m, k, n) => Command::Redeem(m, k, n),
-            Triple::Missing => Command::Bad,
-        },
-        b'H' => query(line),
-        b'S' => settlement(line),
-        _ => Command::Bad,
+        b'I' => {
+            let (card, kind, count) = three_numbers(text)?;
+            Some(Command::Issue { card, kind, count })
+        }
+        b'D' => {
+            let (card, kind, count) = three_numbers(text)?;
+            Some(Command::Redeem { card, kind, count })
+        }
+        b'H' => query(text),
+        b'S' => settlement(text),
+        _ => None,
     }
 }

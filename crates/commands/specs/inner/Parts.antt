@@ -1,33 +1,24 @@
 -- What private functions read and put.
-use Rattle.std.specs.Prelude.{◌≡◌, List, ℕ, ◌+◌, ◌≤◌, length, drop}
-use Rattle.std.proofs.Math.Option.{Option, none, some}
+use Rattle.std.specs.Prelude.{◌≡◌, List, ℕ, ◌+◌, length, cond, ltb, Option, Some, None}
+use Rattle.std.specs.Borrow.{Bor}
 use Rattle.std.proofs.lemmas.List.Edits.{sets}
 use Rattle.model.specs.Calls.{Call}
-use Rattle.commands.specs.Reader.{Numbered}
-use Rattle.commands.specs.declared.numbers.Number.{Number}
-use Rattle.commands.specs.declared.numbers.Number.TheVariants as number
-use Rattle.commands.specs.declared.lines.Leading.{Leading}
-use Rattle.commands.specs.declared.lines.Leading.TheVariants as leading
-use Rattle.commands.specs.declared.lines.Triple.{Triple}
-use Rattle.commands.specs.declared.lines.Triple.TheVariants as triple
+use Rattle.commands.specs.Reader.{Split, Numbered}
 
-abbrev pub reading_of : Number → Option ℕ
-reading_of (number.Is n) = some n
-reading_of number.Missing = none
+-- a value below a limit, none at the limit or above
+abbrev pub below : ℕ → ℕ → Option ℕ
+below limit v = cond (ltb v limit) (Some v) None
 
--- a number of a line, and what follows from the next place on
-abbrev pub leading_of : List ℕ → Leading → Option Numbered
-leading_of line (leading.Number n next) = some (record { value = n; rest = drop next line })
-leading_of line leading.Missing = none
+-- a word and what follows its space
+abbrev pub split_of : Bor (List ℕ) × Bor (List ℕ) → Split
+split_of p = record { word = p.0.now; rest = p.1.now }
 
--- the next place lies in the line, or at its end
-abbrev pub Goes : List ℕ → Leading → Type 0
-Goes line (leading.Number n next) = next ≤ length line
-Goes line leading.Missing = Unit
+-- a number and what follows its space
+abbrev pub numbered_of : ℕ × Bor (List ℕ) → Numbered
+numbered_of p = record { value = p.0; rest = p.1.now }
 
-abbrev pub triple_of : (ℕ → ℕ → ℕ → Call) → Triple → Option Call
-triple_of f (triple.Are m k n) = some (f m k n)
-triple_of f triple.Missing = none
+abbrev pub call_of_three : (ℕ → ℕ → ℕ → Call) → ℕ × ℕ × ℕ → Call
+call_of_three f p = f p.0 p.1 p.2
 
 -- the text is put from a place on, and next is after it
 pub record Put (text buffer : List ℕ) (at : ℕ) (after : List ℕ) (next : ℕ) : Type 0 where

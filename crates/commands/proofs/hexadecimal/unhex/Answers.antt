@@ -1,20 +1,20 @@
--- The loop has put the bytes of the first n pairs, which end before i.
-use native.Mathlib.Omega.{arith}
-use lib.ListN.{length-set}
+-- The first pair of the rest is put next, if it is one.
+use Rattle.std.proofs.Common.{◌≡◌, ◌∷◌, ◌∙◌, sym, drop}
+use Rattle.std.proofs.lemmas.List.{set-get_or}
 use borrow.Author.Rules.{rules}
+use Rattle.model.proofs.Places.{to_end}
+use Rattle.commands.specs.Reader.{pair_bytes}
 use Rattle.commands.proofs.Pairs.{pair_stops, pair_follows}
-use Rattle.commands.proofs.Buffers.{filling_more, filled_all, filled_full}
+use Rattle.commands.proofs.Buffers.{filling_more, filled_all}
 use Rattle.commands.proofs.hexadecimal.unhex.Goals as goal
 
-pub returns-then-b-gt255 : goal.returns-then-b-gt255
-returns-then-b-gt255 c =
-    let stops = pair_stops c.args.word.now c.loop-n.i c.pair-b.result (cc) c.if-b-gt255.true in
-    filled_all c.loop-n.invariant.2 stops.0
+pub returns-in_default-pair : goal.returns-in_default-pair
+returns-in_default-pair c =
+    rw set-get_or (filled_all c.loop-n.invariant (pair_stops _ c.in-len2-up.len_at_least (sym c.pair.ensures ∙ c.in_default-pair.is)))
 
 pub loop-n-preserved : goal.loop-n-preserved
 loop-n-preserved c =
-    let p = pair_follows c.args.word.now c.loop-n.i c.pair-b.result (cc) (search rules) in
-    (omega (arith, p.0), simp length-set c.loop-n.invariant.1, filling_more c.loop-n.invariant.2 _ _ p.1 (search rules))
-
-pub returns : goal.returns
-returns c = filled_full c.loop-n.invariant.2 (search rules)
+    let follows : pair_bytes c.loop-n.rest.now ≡ c.in-Some.value ∷ pair_bytes (drop 2 c.loop-n.rest.now) =
+    pair_follows _ _ c.in-len2-up.len_at_least (sym c.pair.ensures ∙ c.in-Some.is)
+    in
+    rw (to_end c.loop-n.rest.now 2) (filling_more c.loop-n.invariant _ _ follows (search rules))
