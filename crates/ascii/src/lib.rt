@@ -2,7 +2,7 @@
 
 #![tactic(auto)]
 
-ghost use Rattle.std.specs.Prelude.{◌≡◌, ◌+◌, ◌≤◌, if◌then◌else◌, min, max, length, get_or, drop};
+ghost use Rattle.std.specs.Prelude.{◌≡◌, ◌+◌, ◌≤◌, if◌then◌else◌, max, position, ◌==◌, length, get_or, drop};
 ghost use Rattle.model.specs.Lists.{until};
 ghost use Rattle.model.specs.Reader.{digit_of, is_digit};
 
@@ -23,55 +23,25 @@ pub fn digit(x: u8) -> Option<u8>
     }
 }
 
-// How many of the four bytes from a place on come before the first wanted one: 4 where none is wanted.
-fn passed(text: &[u8], at: usize, wanted: u8) -> usize
-    requires { at + 4 ≤ length text.now }
-    ensures { result ≡ min 4 (until wanted (drop at text.now)) }
+fn first(bytes: &[u8], wanted: u8) -> Option<usize>
+    ensures { result ≡ position (λ x. x == wanted) bytes.now }
 {
-    if text[at] == wanted {
-        return 0;
-    }
-    if text[at + 1] == wanted {
-        return 1;
-    }
-    if text[at + 2] == wanted {
-        return 2;
-    }
-    if text[at + 3] == wanted {
-        return 3;
-    }
-    4
+    bytes.iter().position(|x| *x == wanted)
 }
 
-// `find` for the last bytes of a text.
-fn find_last(text: &[u8], at: usize, wanted: u8) -> usize
-    ensures { (result ≡ at + until wanted (drop at text.now)) × (result ≤ max at (length text.now)) }
-{
-    let mut i = at;
-    while i < text.len() {
-        if text[i] == wanted {
-            return i;
-        }
-        i += 1;
-    }
-    i
-}
-
-// The place of the first wanted byte from a place on, or the text's length; a place past the end is given back. Four bytes a turn, since
+// The place of the first wanted byte from a place on, or the text's length; a place past the end is given back. Eight bytes a turn, since
 // every byte of a text is passed in seeking its LFs.
 pub fn find(text: &[u8], at: usize, wanted: u8) -> usize
     ensures { (result ≡ at + until wanted (drop at text.now)) × (result ≤ max at (length text.now)) }
 {
-    if text.len() < at {
+    let Some(rest) = text.get(at..) else {
         return at;
-    }
-    let mut i = at;
-    while 4 <= text.len() - i {
-        let n = passed(text, i, wanted);
-        if n < 4 {
-            return i + n;
+    };
+    let (eights, last) = rest.as_chunks::<8>();
+    for (i, eight) in eights.iter().enumerate() {
+        if let Some(n) = first(eight, wanted) {
+            return at + i * 8 + n;
         }
-        i += 4;
     }
-    find_last(text, i, wanted)
+    at + eights.len() * 8 + first(last, wanted).unwrap_or(last.len())
 }

@@ -1,12 +1,9 @@
--- The wanted byte is not among those from the start to place i; four bytes without it are passed at once.
+-- The wanted byte is in none of the first i eights.
 use mathlib.Core.Path.{◌≡◌}
-use Prim.Native.Nat.{◌+◌, ◌-◌, ◌≤◌}
-use lib.ListN.{length, drop}
+use Prim.Native.Nat.{◌+◌, ◌*◌}
+use lib.ListN.{drop}
 use Rattle.model.specs.Lists.{until}
 use Rattle.ascii.proofs.find.Given as goal
 
 abbrev pub invariant-loop-i : goal.invariant-loop-i
-invariant-loop-i l = (l.at ≤ l.i) × (l.i ≤ length l.text) × (l.i + until l.wanted (drop l.i l.text) ≡ l.at + until l.wanted (drop l.at l.text))
-
-abbrev pub decreases-loop-i : goal.decreases-loop-i
-decreases-loop-i l = length l.text - l.i
+invariant-loop-i l = until l.wanted (drop l.at l.text) ≡ l.i * 8 + until l.wanted (drop (l.i * 8) (drop l.at l.text))
