@@ -1,7 +1,7 @@
 // The chain of records from record 1, each question asked with a note of what was claimed, then question 21.
 ghost use Rattle.std.specs.Prelude.{◌≡◌, cond};
 ghost use Rattle.model.specs.Questions.{ok, refused, done};
-ghost use Rattle.answers.specs.View.{reply_of};
+ghost use Rattle.judge.specs.Judges.{judged};
 ghost use Rattle.judge.specs.inner.Parts.{Short, Recorded, Follows};
 ghost use Rattle.judge.specs.inner.Counts.{is_paid};
 ghost use Rattle.judge.specs.inner.Notes.{Notable, Noted};
@@ -9,8 +9,9 @@ ghost use Rattle.judge.specs.inner.Notes.{Notable, Noted};
 use crate::prices::{ask_prices, first_gifts, is_paid};
 use crate::proof;
 use crate::records::question;
-use answers::Reply;
-use rulebook::layout::{CardTable, RuleTable, row_at};
+use answers::{Reason, Refusal};
+use rulebook::Tables;
+use rulebook::layout::{RuleTable, row_at};
 
 // A record that meets its questions claims its transfer and asks its rule's prices; whether each of these is a transfer.
 fn note(
@@ -31,42 +32,37 @@ fn note(
 }
 
 // Question 21, the last.
-fn last(exchange: &[u8], counts: &[u8; 32], missing: bool) -> Reply
+fn last(exchange: &[u8], counts: &[u8; 32], missing: bool) -> Result<(), Refusal>
     requires { Short exchange.now }
-    ensures { reply_of result ≡ cond (is_paid exchange.now counts.now missing) (ok done) (refused 21 0) }
+    ensures { judged result ≡ cond (is_paid exchange.now counts.now missing) (ok done) (refused 21 0) }
 {
     if !is_paid(exchange, counts, missing) {
-        return Reply::Refused(answers::PRICE_UNPAID, 0);
+        return Err(Reason::PriceUnpaid.into());
     }
-    Reply::Done
+    Ok(())
 }
 
-pub(crate) fn follow(cards: &CardTable, rules: &RuleTable, exchange: &[u8], proof: &[u8]) -> Reply
+pub(crate) fn follow(tables: &Tables, exchange: &[u8], proof: &[u8]) -> Result<(), Refusal>
     requires { (Short exchange.now) × (Recorded proof.now) }
-    ensures { Follows cards.now rules.now exchange.now proof.now result }
+    ensures { Follows tables.now exchange.now proof.now result }
 {
     let n = exchange.len() / crate::TRANSFER_SIZE;
     let firsts = first_gifts(exchange);
     let mut marks = [false; 32];
     let mut counts = [0; 32];
     let mut missing = false;
-    let mut next: usize = 1;
+    let mut next: u8 = 1;
     for i in 0..n {
-        let rec = proof::record_at(proof, next - 1);
-        let q = question(
-            cards,
-            rules,
-            exchange,
-            rec,
-            &marks,
-            n - (i + 1),
-            proof.len() / proof::RECORD_SIZE,
-        );
-        if q != 0 {
-            return Reply::Refused(q, next as u32);
+        let rec = proof::record_at(proof, next as usize - 1);
+        let records = proof.len() / proof::RECORD_SIZE;
+        if let Err(reason) = question(tables, exchange, rec, &marks, n - (i + 1), records) {
+            return Err(Refusal {
+                reason,
+                place: u32::from(next),
+            });
         }
-        missing = missing | !note(exchange, &firsts, rules, rec, &mut marks, &mut counts);
-        next = proof::next(rec) as usize;
+        missing = missing | !note(exchange, &firsts, &tables.rules, rec, &mut marks, &mut counts);
+        next = proof::next(rec);
     }
     last(exchange, &counts, missing)
 }

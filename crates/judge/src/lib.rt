@@ -16,8 +16,9 @@ mod variables;
 
 ghost use Rattle.judge.specs.Judges.{Judges};
 
-use answers::Reply;
-use rulebook::layout::{CardTable, RuleTable, card_count};
+use answers::{Reason, Refusal};
+use rulebook::Tables;
+use rulebook::layout::card_count;
 
 // The numbers of document 01 in bytes.
 const TRANSFER_SIZE: usize = limits::TRANSFER_SIZE as usize;
@@ -27,18 +28,20 @@ const EXCHANGE_LIMIT: usize = limits::EXCHANGE_LIMIT as usize;
 const PROOF_LIMIT: usize = limits::PROOF_LIMIT as usize;
 
 // The first question that the exchange and its proof do not meet, with its place, or done.
-pub fn judge(cards: &CardTable, rules: &RuleTable, exchange: &[u8], proof: &[u8]) -> Reply
-    ensures { Judges cards.now rules.now exchange.now proof.now result }
+pub fn judge(tables: &Tables, exchange: &[u8], proof: &[u8]) -> Result<(), Refusal>
+    ensures { Judges tables.now exchange.now proof.now result }
 {
     if !sizes::is_sized(exchange, TRANSFER_SIZE, EXCHANGE_LIMIT) {
-        return Reply::Refused(answers::EXCHANGE_SIZE, 0);
+        return Err(Reason::ExchangeSize.into());
     }
-    let bad = transfers::first_improper(card_count(cards), exchange);
-    if bad != 0 {
-        return Reply::Refused(answers::BAD_TRANSFER, bad as u32);
+    if let Some(bad) = transfers::first_improper(card_count(&tables.cards), exchange) {
+        return Err(Refusal {
+            reason: Reason::BadTransfer,
+            place: bad as u32,
+        });
     }
     if !sizes::is_sized(proof, proof::RECORD_SIZE, PROOF_LIMIT) {
-        return Reply::Refused(answers::PROOF_SIZE, 0);
+        return Err(Reason::ProofSize.into());
     }
-    chain::follow(cards, rules, exchange, proof)
+    chain::follow(tables, exchange, proof)
 }

@@ -16,6 +16,7 @@ pub mod Hyphens
 pub mod RuleVariables
 pub mod Counting
 pub mod Loops
+pub mod Ranges
 pub mod Permutations
 pub mod Orders
 pub mod Backing

@@ -2,8 +2,8 @@
 
 #![tactic(auto)]
 
-ghost use Rattle.std.specs.Prelude.{◌≡◌, ◌+◌, ◌<◌, ◌≤◌, ◌^◌, min, take, get_or};
-ghost use Rattle.model.specs.Lists.{first_failing};
+ghost use Rattle.std.specs.Prelude.{◌≡◌, ◌+◌, ◌<◌, ◌≤◌, ◌^◌, not, min, take, get_or, position};
+ghost use Rattle.std.specs.Option.{option_map};
 ghost use Rattle.model.specs.Transfers as model;
 ghost use Rattle.model.specs.Transfers.{count, exchange_of, no_transfer};
 ghost use Rattle.transfers.specs.View.{transfer_of, transfers_of, transfer_count, list_size, Listed};
@@ -60,17 +60,14 @@ fn is_proper(declared: u8, t: Transfer) -> bool
         & ((t.giver != t.receiver) & limits::is_within(t.kind, limits::KIND_COUNT))
 }
 
-// The number, from 1, of the first transfer that question 13 refuses, or 0.
-pub fn first_improper(declared: u8, exchange: &[u8]) -> usize
-    ensures { (result ≡ first_failing (is_proper_of declared) 1 (exchange_of exchange.now)) × (result ≤ transfer_count exchange.now) }
+// The number, from 1, of the first transfer that question 13 refuses.
+pub fn first_improper(declared: u8, exchange: &[u8]) -> Option<usize>
+    ensures { result ≡ option_map (λ i. i + 1) (position (λ t. not (is_proper_of declared t)) (exchange_of exchange.now)) }
 {
     let n = exchange.len() / TRANSFER_SIZE;
-    for i in 0..n {
-        if !is_proper(declared, transfer_at(exchange, i)) {
-            return i + 1;
-        }
-    }
-    0
+    (0..n)
+        .position(|i| !is_proper(declared, transfer_at(exchange, i)))
+        .map(|i| i + 1)
 }
 
 // How many transfers a list takes of the exchange.

@@ -5,38 +5,51 @@ use borrow.Author.Tests.{eq-eqb, ne_eqb}
 use mathlib.Core.Path.{◌≡◌, sym, ◌∙◌}
 use mathlib.Core.Bool.{true}
 use Rattle.rulebook.specs.View.{book_of}
-use Rattle.judge.proofs.Beginning.{short, recorded, bad, chosen, judging≡}
+use Rattle.judge.proofs.Beginning.{short, recorded, bad, Told, told_some, told_none, chosen, judging≡}
+use Prim.Native.Nat.{◌≤◌}
+use Rattle.transfers.specs.View.{transfer_count}
 use Rattle.model.specs.Calls.{is_sized, judging}
 use Rattle.judge.proofs.judge.Goals as goal
-use Rattle.judge.proofs.judge.Goals.{After-first_improper-bad, Else-bad-ne0, Else-not-is_sized, Else-not-is_sized-2, Start}
+use Rattle.judge.proofs.judge.Goals.{In-Some, In_default, After-first_improper, Else-not-is_sized, Else-not-is_sized-2, Start}
 
 met12 : (c : Else-not-is_sized) → is_sized 3 96 c.args.exchange.now ≡ true
 met12 c = sym c.is_sized.ensures ∙ c.if-not-is_sized.false
 
--- the place that question 13 is given, with the count of cards cut
-place : (c : After-first_improper-bad) → let a = c.args in c.first_improper-bad.result ≡ bad a.cards.now a.rules.now a.exchange.now a.proof.now
-place c = rw c.card_count.ensures at c.first_improper-bad.ensures.0
+-- what the chain told of question 13, with the count of cards cut
+told : (c : After-first_improper) → let a = c.args in Told a.tables.now.cards a.exchange.now c.first_improper.result
+told c = rw c.card_count.ensures at c.first_improper.ensures
 
-met13 : (c : Else-bad-ne0) → let a = c.args in eqb (bad a.cards.now a.rules.now a.exchange.now a.proof.now) 0 ≡ true
-met13 c = rw (← place (goal.at.Else-bad-ne0 c).After-first_improper-bad) (eq-eqb _ _ c.if-bad-ne0.false)
+found : (c : In-Some) → let a = c.args in let k = c.in-Some.bad in
+    (bad a.tables.now.cards a.exchange.now ≡ k) × (1 ≤ k) × (k ≤ transfer_count a.exchange.now)
+found c = told_some _ _ _ _ (told (goal.at.In-Some c).After-first_improper) c.in-Some.is
+
+met13 : (c : In_default) → eqb (bad c.args.tables.now.cards c.args.exchange.now) 0 ≡ true
+met13 c = eq-eqb _ 0 (told_none _ _ _ (told (goal.at.In_default c).After-first_improper) c.in_default.is)
 
 met14 : (c : Else-not-is_sized-2) → is_sized 12 3060 c.args.proof.now ≡ true
 met14 c = sym c.is_sized-2.ensures ∙ c.if-not-is_sized-2.false
 
 answer : (s : Start) → let a = s.args in
-    judging (book_of a.cards.now a.rules.now) a.exchange.now a.proof.now ≡ chosen a.cards.now a.rules.now a.exchange.now a.proof.now
-answer s = let a = s.args in judging≡ a.cards.now a.rules.now a.exchange.now a.proof.now
+    judging (book_of a.tables.now.cards a.tables.now.rules) a.exchange.now a.proof.now ≡ chosen a.tables.now.cards a.tables.now.rules a.exchange.now a.proof.now
+answer s = let a = s.args in judging≡ a.tables.now.cards a.tables.now.rules a.exchange.now a.proof.now
 
 pub returns-then-not-is_sized : goal.returns-then-not-is_sized
-returns-then-not-is_sized c = sym (answer (goal.at.returns-then-not-is_sized c).Start ∙ rw (sym c.is_sized.ensures ∙ c.if-not-is_sized.true))
+returns-then-not-is_sized c = rw c.into.ensures (sym (answer (goal.at.returns-then-not-is_sized c).Start ∙ rw (sym c.is_sized.ensures ∙ c.if-not-is_sized.true)))
 
-pub returns-then-bad-ne0 : goal.returns-then-bad-ne0
-returns-then-bad-ne0 c =
-    sym (answer (goal.at.returns-then-bad-ne0 c).Start ∙ rw (met12 (goal.at.returns-then-bad-ne0 c).Else-not-is_sized, ← place (goal.at.returns-then-bad-ne0 c).After-first_improper-bad, ne_eqb _ _ c.if-bad-ne0.true))
+pub overflow_cast-result : goal.overflow_cast-result
+overflow_cast-result c =
+    let s = found c in
+    omega (arith, s.2, short c.args.exchange.now (met12 (goal.at.overflow_cast-result c).Else-not-is_sized))
+
+pub returns-in-Some : goal.returns-in-Some
+returns-in-Some c =
+    let s = found c in
+    sym (answer (goal.at.returns-in-Some c).Start ∙ rw (met12 (goal.at.returns-in-Some c).Else-not-is_sized, s.0, ne_eqb c.in-Some.bad 0 (λ z. omega (arith, s.1))))
 
 pub returns-then-not-is_sized-2 : goal.returns-then-not-is_sized-2
-returns-then-not-is_sized-2 c =
-    sym (answer (goal.at.returns-then-not-is_sized-2 c).Start ∙ rw (met12 (goal.at.returns-then-not-is_sized-2 c).Else-not-is_sized, met13 (goal.at.returns-then-not-is_sized-2 c).Else-bad-ne0, sym c.is_sized-2.ensures ∙ c.if-not-is_sized-2.true))
+returns-then-not-is_sized-2 c = 
+    rw c.into-then-not-is_sized-2.ensures
+    (sym (answer (goal.at.returns-then-not-is_sized-2 c).Start ∙ rw (met12 (goal.at.returns-then-not-is_sized-2 c).Else-not-is_sized, met13 (goal.at.returns-then-not-is_sized-2 c).In_default, sym c.is_sized-2.ensures ∙ c.if-not-is_sized-2.true)))
 
 pub follow-requires : goal.follow-requires
 follow-requires c =
@@ -44,7 +57,4 @@ follow-requires c =
 
 pub returns : goal.returns
 returns c =
-    c.follow.ensures ∙ sym (answer (goal.at.returns c).Start ∙ rw (met12 (goal.at.returns c).Else-not-is_sized, met13 (goal.at.returns c).Else-bad-ne0, met14 (goal.at.returns c).Else-not-is_sized-2))
-
-pub overflow_cast-result : goal.overflow_cast-result
-overflow_cast-result c = omega (arith, c.first_improper-bad.ensures.1, short c.args.exchange.now (met12 (goal.at.overflow_cast-result c).Else-not-is_sized))
+    c.follow.ensures ∙ sym (answer (goal.at.returns c).Start ∙ rw (met12 (goal.at.returns c).Else-not-is_sized, met13 (goal.at.returns c).In_default, met14 (goal.at.returns c).Else-not-is_sized-2))

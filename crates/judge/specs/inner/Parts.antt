@@ -1,11 +1,12 @@
 -- What the inner functions are given, and what following the chain answers.
-use Rattle.std.specs.Prelude.{◌≡◌, List, ℕ, ◌≤◌, length}
+use Rattle.std.specs.Prelude.{◌≡◌, List, ℕ, ◌≤◌, Result, length}
 use Rattle.model.specs.Limits.{exchange_limit, record_size, proof_limit}
 use Rattle.model.specs.Transfers.{exchange_of}
 use Rattle.model.specs.Proof.{judge_chain}
-use Rattle.answers.specs.declared.Reply.{Reply}
-use Rattle.answers.specs.View.{reply_of}
+use Rattle.answers.specs.declared.Refusal.{Refusal}
 use Rattle.rulebook.specs.View.{book_of}
+use Rattle.rulebook.specs.declared.Tables.{Tables}
+use Rattle.judge.specs.Judges.{judged}
 
 -- an exchange within its limit
 abbrev pub Short : List ℕ → Type 0
@@ -17,5 +18,5 @@ pub record Recorded (p : List ℕ) : Type 0 where
   pub few : length p ≤ proof_limit
 
 -- what following the chain answers: questions 15 to 21
-abbrev pub Follows : List ℕ → List ℕ → List ℕ → List ℕ → Reply → Type 0
-Follows cards rules e p reply = reply_of reply ≡ judge_chain (book_of cards rules) (exchange_of e) p
+abbrev pub Follows : Tables → List ℕ → List ℕ → Result (Unit {0}) Refusal → Type 0
+Follows tables e p result = judged result ≡ judge_chain (book_of tables.cards tables.rules) (exchange_of e) p

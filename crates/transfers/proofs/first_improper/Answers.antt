@@ -1,33 +1,28 @@
--- Every transfer before place i is proper.
+-- The chain tests the transfers in order.
 use borrow.Author.Rules.{rules}
+use Prim.Native.Nat.{ℕ, ◌+◌}
 use native.Mathlib.Omega.{arith}
-use mathlib.Core.Path.{◌≡◌, sym, ◌∙◌, ap}
-use Rattle.model.specs.Transfers.{transfer_at, exchange_of}
+use Rattle.std.proofs.lemmas.Grind.{common_steps}
+use Rattle.std.specs.Option.{option_map}
+use mathlib.Core.Path.{◌≡◌, refl, ◌∙◌, ap}
+use mathlib.Core.Bool.{not}
+use lib.ListN.{get_or}
+use Rattle.std.specs.Prelude.{position}
+use Rattle.model.specs.Transfers.{Transfer, transfer_at, exchange_of, no_transfer}
 use Rattle.model.specs.Fairness.{is_proper_of}
-use Rattle.model.proofs.Loops.{every_more, failing_end, failing_stop}
+use Rattle.model.proofs.Places.{up_to_cong}
+use Rattle.model.proofs.Ranges.{first_place}
+use Rattle.transfers.specs.View.{transfer_count}
 use Rattle.transfers.proofs.Listing.{here}
 use Rattle.transfers.proofs.first_improper.Goals as goal
-use Rattle.transfers.proofs.first_improper.Goals.{After-is_proper}
-
--- the transfer tested is transfer i
-tested : (c : After-is_proper) → let a = c.args in
-    is_proper_of a.declared (transfer_at a.exchange.now c.loop-i.i) ≡ c.is_proper.result
-tested c =
-    sym (c.is_proper.ensures ∙ ap (is_proper_of c.args.declared) (c.transfer_at.ensures ∙ here _ _ c.loop-i-test.true))
-
-pub returns-then-not-is_proper : goal.returns-then-not-is_proper
-unfolding exchange_of
-returns-then-not-is_proper c =
-    let o = c.loop-i in
-    (sym (failing_stop _ _ o.i _ o.invariant.1 (tested (goal.at.returns-then-not-is_proper c).After-is_proper ∙ c.if-not-is_proper.true) c.loop-i-test.true), omega arith)
-
-pub loop-i-preserved : goal.loop-i-preserved
-loop-i-preserved c =
-    let o = c.loop-i in
-    (search rules, every_more _ _ o.i o.invariant.1 (tested (goal.at.loop-i-preserved c).After-is_proper ∙ c.if-not-is_proper.false))
 
 pub returns : goal.returns
 unfolding exchange_of
 returns c =
-    let o = c.loop-i in
-    (sym (failing_end _ _ o.i _ o.invariant.1 o.invariant.0 c.loop-i-test.false), omega arith)
+    let e = c.args.exchange.now in
+    let p = λ (t : Transfer). not (is_proper_of c.args.declared t) in
+    let taken = λ (i : ℕ). get_or (exchange_of e) i no_transfer in
+    let place : c.position.result ≡ position p (exchange_of e) =
+        first_place taken p _ _ _ refl (λ x b q k. search rules) _ c.position.ensures.ran ∙ ap (position p) (up_to_cong taken (transfer_at e) (transfer_count e) (here e)) in
+    let number : c.map.result ≡ option_map (λ i. i + 1) c.position.result = grind (arith, common_steps) in
+    number ∙ ap (option_map (λ (i : ℕ). i + 1)) place

@@ -6,7 +6,7 @@ use Rattle.judge.proofs.chain.follow.Given as goal
 
 abbrev pub invariant-loop-i : goal.invariant-loop-i
 invariant-loop-i l =
-    (l.i ≤ l.n) × Going l.cards l.rules l.exchange l.proof (l.n - l.i) l.marks l.counts l.missing l.next
+    (l.i ≤ l.n) × Going l.tables.cards l.tables.rules l.exchange l.proof (l.n - l.i) l.marks l.counts l.missing l.next
 
 abbrev pub decreases-loop-i : goal.decreases-loop-i
 decreases-loop-i l =
