@@ -1,7 +1,7 @@
 // The chain of records from record 1, each question asked with a note of what was claimed, then question 21.
 ghost use Rattle.std.specs.Prelude.{◌≡◌, cond};
 ghost use Rattle.model.specs.Questions.{ok, refused, done};
-ghost use Rattle.judge.specs.Judges.{judged};
+ghost use Rattle.answers.specs.View.{answer_of};
 ghost use Rattle.judge.specs.inner.Parts.{Short, Recorded, Follows};
 ghost use Rattle.judge.specs.inner.Counts.{is_paid};
 ghost use Rattle.judge.specs.inner.Notes.{Notable, Noted};
@@ -34,7 +34,7 @@ fn note(
 // Question 21, the last.
 fn last(exchange: &[u8], counts: &[u8; 32], missing: bool) -> Result<(), Refusal>
     requires { Short exchange.now }
-    ensures { judged result ≡ cond (is_paid exchange.now counts.now missing) (ok done) (refused 21 0) }
+    ensures { answer_of done result ≡ cond (is_paid exchange.now counts.now missing) (ok done) (refused 21 0) }
 {
     if !is_paid(exchange, counts, missing) {
         return Err(Reason::PriceUnpaid.into());
@@ -55,13 +55,17 @@ pub(crate) fn follow(tables: &Tables, exchange: &[u8], proof: &[u8]) -> Result<(
     for i in 0..n {
         let rec = proof::record_at(proof, next as usize - 1);
         let records = proof.len() / proof::RECORD_SIZE;
-        if let Err(reason) = question(tables, exchange, rec, &marks, n - (i + 1), records) {
-            return Err(Refusal {
-                reason,
-                place: u32::from(next),
-            });
-        }
-        missing = missing | !note(exchange, &firsts, &tables.rules, rec, &mut marks, &mut counts);
+        let asked = question(tables, exchange, rec, &marks, n - (i + 1), records);
+        asked.map_err(|reason| reason.at(u32::from(next)))?;
+        missing = missing
+            | !note(
+                exchange,
+                &firsts,
+                &tables.rules,
+                rec,
+                &mut marks,
+                &mut counts,
+            );
         next = proof::next(rec);
     }
     last(exchange, &counts, missing)

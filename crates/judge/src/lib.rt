@@ -35,10 +35,7 @@ pub fn judge(tables: &Tables, exchange: &[u8], proof: &[u8]) -> Result<(), Refus
         return Err(Reason::ExchangeSize.into());
     }
     if let Some(bad) = transfers::first_improper(card_count(&tables.cards), exchange) {
-        return Err(Refusal {
-            reason: Reason::BadTransfer,
-            place: bad as u32,
-        });
+        return Err(Reason::BadTransfer.at(bad as u32));
     }
     if !sizes::is_sized(proof, proof::RECORD_SIZE, PROOF_LIMIT) {
         return Err(Reason::ProofSize.into());

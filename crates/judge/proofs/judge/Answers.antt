@@ -36,18 +36,18 @@ answer s = let a = s.args in judging≡ a.tables.now.cards a.tables.now.rules a.
 pub returns-then-not-is_sized : goal.returns-then-not-is_sized
 returns-then-not-is_sized c = rw c.into.ensures (sym (answer (goal.at.returns-then-not-is_sized c).Start ∙ rw (sym c.is_sized.ensures ∙ c.if-not-is_sized.true)))
 
-pub overflow_cast-result : goal.overflow_cast-result
-overflow_cast-result c =
+pub overflow_cast-bad : goal.overflow_cast-bad
+overflow_cast-bad c =
     let s = found c in
-    omega (arith, s.2, short c.args.exchange.now (met12 (goal.at.overflow_cast-result c).Else-not-is_sized))
+    omega (arith, s.2, short c.args.exchange.now (met12 (goal.at.overflow_cast-bad c).Else-not-is_sized))
 
 pub returns-in-Some : goal.returns-in-Some
 returns-in-Some c =
-    let s = found c in
-    sym (answer (goal.at.returns-in-Some c).Start ∙ rw (met12 (goal.at.returns-in-Some c).Else-not-is_sized, s.0, ne_eqb c.in-Some.bad 0 (λ z. omega (arith, s.1))))
+    let s = found (goal.at.returns-in-Some c).In-Some in
+    rw c.at.ensures (sym (answer (goal.at.returns-in-Some c).Start ∙ rw (met12 (goal.at.returns-in-Some c).Else-not-is_sized, s.0, ne_eqb c.in-Some.bad 0 (λ z. omega (arith, s.1)))))
 
 pub returns-then-not-is_sized-2 : goal.returns-then-not-is_sized-2
-returns-then-not-is_sized-2 c = 
+returns-then-not-is_sized-2 c =
     rw c.into-then-not-is_sized-2.ensures
     (sym (answer (goal.at.returns-then-not-is_sized-2 c).Start ∙ rw (met12 (goal.at.returns-then-not-is_sized-2 c).Else-not-is_sized, met13 (goal.at.returns-then-not-is_sized-2 c).In_default, sym c.is_sized-2.ensures ∙ c.if-not-is_sized-2.true)))
 

@@ -23,6 +23,6 @@ returns c =
     let p = λ (t : Transfer). not (is_proper_of c.args.declared t) in
     let taken = λ (i : ℕ). get_or (exchange_of e) i no_transfer in
     let place : c.position.result ≡ position p (exchange_of e) =
-        first_place taken p _ _ _ refl (λ x b q k. search rules) _ c.position.ensures.ran ∙ ap (position p) (up_to_cong taken (transfer_at e) (transfer_count e) (here e)) in
+    first_place taken p _ _ _ refl (λ x b q k. search rules) _ c.position.ensures.ran ∙ ap (position p) (up_to_cong taken (transfer_at e) (transfer_count e) (here e)) in
     let number : c.map.result ≡ option_map (λ i. i + 1) c.position.result = grind (arith, common_steps) in
     number ∙ ap (option_map (λ (i : ℕ). i + 1)) place

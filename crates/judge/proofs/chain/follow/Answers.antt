@@ -10,12 +10,14 @@ use Rattle.model.specs.Transfers.{exchange_of}
 use Rattle.transfers.specs.View.{transfer_count}
 use Rattle.rulebook.specs.View.{book_of}
 use Rattle.judge.specs.inner.Counts.{is_paid}
-use Rattle.judge.proofs.Asking.{named}
+use Rattle.std.proofs.lemmas.Result.{err_from_is_err_and}
+use Rattle.answers.proofs.Numbers.{number_positive}
+use Rattle.judge.proofs.Asking.{at_record, refused_at, met_at}
 use Rattle.judge.proofs.Following.{going_first, going_stops, going_ends, Turn, turn_facts}
 use Rattle.model.specs.Questions.{ok, refused, done}
 use Rattle.model.specs.Proof.{record_at, judge_chain}
 use Rattle.judge.proofs.chain.follow.Goals as goal
-use Rattle.judge.proofs.chain.follow.Goals.{After-loop-i, After-record_at-rec, At-loop-i, In_default, In-loop-i}
+use Rattle.judge.proofs.chain.follow.Goals.{After-loop-i, After-record_at-rec, At-loop-i, In_ok-map_err, In-loop-i}
 
 -- how many transfers are not claimed yet
 abbrev left : At-loop-i → ℕ
@@ -38,13 +40,15 @@ number c = omega (arith, here (goal.at.After-record_at-rec c).In-loop-i)
 taken : (c : After-record_at-rec) → c.record_at-rec.result.now ≡ record_at c.args.proof.now c.loop-i.next
 taken c = rw (number c) at c.record_at-rec.ensures
 
-turn : (c : In_default) → let o = c.loop-i in
-    Turn c.args.tables.now.cards c.args.tables.now.rules c.args.exchange.now c.args.proof.now c.first_gifts-firsts.result (left (goal.at.In_default c).At-loop-i) o.marks o.counts o.missing c.record_at-rec.result.now
+turn : (c : In_ok-map_err) → let o = c.loop-i in
+    Turn c.args.tables.now.cards c.args.tables.now.rules c.args.exchange.now c.args.proof.now c.first_gifts-firsts.result (left (goal.at.In_ok-map_err c).At-loop-i) o.marks o.counts o.missing c.record_at-rec.result.now
 turn c =
     let o = c.loop-i in
-    let q = rw (less (transfer_count c.args.exchange.now) o.i, c.in_default.is) at c.question.ensures in
-    turn_facts c.args.tables.now.cards c.args.tables.now.rules c.args.exchange.now c.args.proof.now _ c.requires.0 c.first_gifts-firsts.ensures (left (goal.at.In_default c).At-loop-i) o.marks o.counts o.missing o.next c.record_at-rec.result.now
-    o.invariant.1 (some (goal.at.In_default c).In-loop-i) (taken (goal.at.In_default c).After-record_at-rec) (sym q)
+    let told : at_record o.next c.question-asked.result ≡ c.map_err.result = search rules in
+    let met = met_at o.next c.question-asked.result _ (told ∙ c.in_ok-map_err.was) in
+    let q = rw (less (transfer_count c.args.exchange.now) o.i) at c.question-asked.ensures in
+    turn_facts c.args.tables.now.cards c.args.tables.now.rules c.args.exchange.now c.args.proof.now _ c.requires.0 c.first_gifts-firsts.ensures (left (goal.at.In_ok-map_err c).At-loop-i) o.marks o.counts o.missing o.next c.record_at-rec.result.now
+    o.invariant.1 (some (goal.at.In_ok-map_err c).In-loop-i) (taken (goal.at.In_ok-map_err c).After-record_at-rec) (sym q ∙ met)
 
 -- the answer after the loop is question 21's
 ended : (c : After-loop-i) → let o = c.loop-i in
@@ -64,24 +68,28 @@ overflow_sub-next c = omega (arith, here c)
 pub record_at-rec-requires : goal.record_at-rec-requires
 record_at-rec-requires c = omega (arith, here c)
 
-pub question-requires : goal.question-requires
-question-requires c = c.requires.0
+pub question-asked-requires : goal.question-asked-requires
+question-asked-requires c = c.requires.0
 
-pub returns-in-Err : goal.returns-in-Err
-returns-in-Err c =
+pub returns-in_err-map_err : goal.returns-in_err-map_err
+returns-in_err-map_err c =
+    let at = goal.at.returns-in_err-map_err c in
     let o = c.loop-i in
-    let q = rw (less (transfer_count c.args.exchange.now) o.i, taken (goal.at.returns-in-Err c).After-record_at-rec, c.in-Err.is) at c.question.ensures in
-    rw (q, c.from.ensures)
-    (going_stops c.args.tables.now.cards c.args.tables.now.rules c.args.exchange.now c.args.proof.now c.requires.0 (left (goal.at.returns-in-Err c).At-loop-i) o.marks o.counts o.missing o.next o.invariant.1
-    (some (goal.at.returns-in-Err c).In-loop-i) (λ z. named c.in-Err.reason (q ∙ z)))
+    let p = err_from_is_err_and c.from_residual.result c.from_residual.ensures.1 in
+    let why = c.in_err-map_err.field-0.0 in
+    let told : at_record o.next c.question-asked.result ≡ c.map_err.result = search rules in
+    let w = refused_at o.next c.question-asked.result why (told ∙ c.in_err-map_err.was) in
+    let q = rw (less (transfer_count c.args.exchange.now) o.i, taken at.After-record_at-rec, w.0) at c.question-asked.ensures in
+    rw (p.1, p.2, q, w.1)
+    (going_stops c.args.tables.now.cards c.args.tables.now.rules c.args.exchange.now c.args.proof.now c.requires.0 (left at.At-loop-i) o.marks o.counts o.missing o.next o.invariant.1 (some at.In-loop-i)
+    (λ z. omega (arith, q, z, number_positive why.reason)))
 
 pub note-requires : goal.note-requires
-note-requires c = (turn (goal.at.note-requires c).In_default).notable
+note-requires c = (turn (goal.at.note-requires c).In_ok-map_err).notable
 
 pub loop-i-preserved : goal.loop-i-preserved
 loop-i-preserved c =
-    (search rules, rw (less (transfer_count c.args.exchange.now) c.loop-i.i, c.next-next.ensures) ((turn (goal.at.loop-i-preserved c).In_default).on c.note.ensures))
+    (search rules, rw (less (transfer_count c.args.exchange.now) c.loop-i.i, c.next-next.ensures) ((turn (goal.at.loop-i-preserved c).In_ok-map_err).on c.note.ensures))
 
 pub returns : goal.returns
 returns c = c.last.ensures ∙ ended (goal.at.returns c).After-loop-i
-

@@ -3,6 +3,7 @@ use native.Mathlib.Omega.{arith}
 use lib.Dec.{eqb}
 use Rattle.std.proofs.lemmas.Result.{err_from_is_err_and}
 use Rattle.model.proofs.Tests.{both_true, within-true}
+use borrow.Author.Tests.{ne_eqb}
 use Prim.Native.Nat.{◌≤◌, min}
 use mathlib.Core.Path.{◌≡◌, sym, ◌∙◌}
 use mathlib.Core.Bool.{true, cond}
@@ -14,8 +15,10 @@ use Rattle.rulebook.proofs.Books.{rules_small}
 use Rattle.model.specs.Questions.{first_unmet}
 use Rattle.judge.specs.inner.Records.{unmet_of, is_claimable, is_linked, questions15to20}
 use Rattle.transfers.proofs.Listing.{here}
-use Rattle.judge.proofs.Asking.{record_unmet, numbered}
+use Rattle.judge.proofs.Asking.{record_unmet}
 use Rattle.model.specs.Proof.{next, claim, rule_number}
+use Rattle.answers.specs.View.{number_of}
+use Rattle.answers.proofs.Numbers.{number_positive}
 use Rattle.judge.proofs.records.question.Goals as goal
 use Rattle.judge.proofs.records.question.Goals.{After-rule_question, Else-not-is_claimable, Else-not-is_within}
 
@@ -63,7 +66,7 @@ pub returns-in_err-rule_question : goal.returns-in_err-rule_question
 returns-in_err-rule_question c =
     let p = err_from_is_err_and c.from_residual.result c.from_residual.ensures.1 in
     rw (p.1, p.2)
-    (sym (rw c.in_err-rule_question.was at (asked (goal.at.returns-in_err-rule_question c).After-rule_question) ∙ rw (numbered c.in_err-rule_question.field-0.0)))
+    (sym (rw c.in_err-rule_question.was at (asked (goal.at.returns-in_err-rule_question c).After-rule_question) ∙ rw (ne_eqb (number_of c.in_err-rule_question.field-0.0) 0 (λ z. omega (arith, number_positive c.in_err-rule_question.field-0.0)))))
 
 pub returns-then-not-is_linked : goal.returns-then-not-is_linked
 returns-then-not-is_linked c =
