@@ -2,13 +2,13 @@
 use mathlib.Core.Path.{◌≡◌, refl, sym, ap, ap₂, ◌∙◌}
 use mathlib.Core.Bool.{Bool, true, false, ◌&&◌, cond}
 use mathlib.Core.List.{List, [], ◌∷◌, ◌++◌}
-use Prim.Native.Nat.{ℕ, suc, ◌+◌, ◌-◌, ◌*◌, ◌≤◌, ◌<◌, min}
+use Prim.Native.Nat.{ℕ, suc, ◌+◌, ◌-◌, ◌*◌, ◌/◌, ◌≤◌, ◌<◌, min}
 use native.Mathlib.Numerals.{add-one}
 use native.Mathlib.Omega.{arith}
 use lib.Dec.{eqb, leb, eqb→eq}
-use lib.ListN.{length, get_or, set, length-set, drop}
-use Rattle.std.proofs.lemmas.List.{length-append, length-drop}
-use Rattle.accounts.proofs.Chunks.{chunk_at, chunk_rest}
+use lib.ListN.{length, get_or, set, length-set}
+use Rattle.std.specs.Simd.{first_chunks}
+use Rattle.accounts.proofs.Chunks.{chunk_at}
 use borrow.Author.Tests.{le-leb, lt-leb}
 use Rattle.model.specs.Limits.{card_limit, kind_count, sum_limit, holding_count, number_most}
 use Rattle.model.specs.Lists.{within}
@@ -217,18 +217,13 @@ sum_more h k sum i w s l p q e m =
       small = omega (arith, s.small);
     }
 
--- one row more: the 16 holdings of the next card
-module _ (h row rest : List ℕ) (n : ℕ) (cut : drop (kind_count * n) h ≡ row ++ rest) (whole : length row ≡ kind_count) where
-  pub rows_left : rest ≡ drop (kind_count * (n + 1)) h
-  rows_left = chunk_rest h row rest (kind_count * n) cut ∙ ap (λ (i : ℕ). drop i h) (omega arith)
-
-  pub sum_row : (k sum w : ℕ) → length h ≡ holding_count → ((i : ℕ) → get_or h i 0 < 4294967296) → SumTo h k sum n → 1 ≤ k → k ≤ kind_count
-      → w ≡ get_or row (k - 1) 0 → SumTo h k (sum + w) (n + 1)
-  sum_row k sum w long fits s p q e =
-      let at : kind_count * n + (k - 1) ≡ n * kind_count + (k - 1) = omega arith in
-      let here = e ∙ chunk_at h row rest (kind_count * n) cut (k - 1) (omega arith) ∙ ap (λ (i : ℕ). get_or h i 0) at in
-      let more : n < card_limit = omega (arith, length-append row rest, length-drop (kind_count * n) h, ap (length {A = ℕ}) cut) in
-      sum_more h k sum n w s more p q here (rw here (fits (n * kind_count + (k - 1))))
+-- one row more: the next card's 16 holdings
+pub sum_row : (h : List ℕ) (rows : List (List ℕ)) (d : List ℕ) (k sum i w : ℕ) → length h ≡ holding_count → ((j : ℕ) → get_or h j 0 < 4294967296)
+    → rows ≡ first_chunks kind_count (length h / kind_count) h → length rows ≡ length h / kind_count → SumTo h k sum i → i < length rows → 1 ≤ k → k ≤ kind_count
+    → w ≡ get_or (get_or rows i d) (k - 1) 0 → SumTo h k (sum + w) (i + 1)
+sum_row h rows d k sum i w long fits cut count s l p q e =
+    let here = rw cut at e ∙ chunk_at kind_count (length h / kind_count) h i (k - 1) d (omega arith) (omega arith) in
+    sum_more h k sum i w s (omega arith) p q here (rw here (fits (i * kind_count + (k - 1))))
 
 -- a number that is no kind
 pub sum_nothing : (h : List ℕ) (k : ℕ) → (1 ≤ k → k ≤ kind_count → ⊥) → (0 ≡ total (state_from h) k) × (0 < 1099511627776)

@@ -1,15 +1,15 @@
--- A loop over the chunks of a list: where each chunk's numbers are in the list, and what is left after it.
-use mathlib.Core.Path.{◌≡◌, sym, ap, ◌∙◌}
-use mathlib.Core.List.{List, ◌++◌}
-use Prim.Native.Nat.{ℕ, ◌+◌, ◌<◌}
-use lib.ListN.{length, get_or, drop}
-use Rattle.std.proofs.lemmas.List.{get_or_append_left, get_or-drop, drop-drop}
-use Rattle.std.proofs.Math.Seq.{drop-append_seam}
+-- The chunks that a list is cut into: where each chunk's numbers are in the list.
+use mathlib.Core.Path.{◌≡◌, ap, ◌∙◌}
+use mathlib.Core.List.{List}
+use Prim.Native.Nat.{ℕ, zero, suc, ◌+◌, ◌*◌, ◌<◌}
+use native.Mathlib.Omega.{arith}
+use lib.ListN.{get_or, take, drop}
+use Rattle.std.specs.Simd.{first_chunks}
+use Rattle.std.proofs.lemmas.List.{get_or-take, get_or-drop}
+use Rattle.std.proofs.Math.Nat.{suc-mul}
 
--- `chunk` is the first of those that are left from a place on, and `rest` what is left after it
-module _ (list chunk rest : List ℕ) (from : ℕ) (cut : drop from list ≡ chunk ++ rest) where
-  pub chunk_at : (k : ℕ) → k < length chunk → get_or chunk k 0 ≡ get_or list (from + k) 0
-  chunk_at k l = sym (get_or_append_left chunk rest 0 k l) ∙ ap (λ (xs : List ℕ). get_or xs k 0) (sym cut) ∙ get_or-drop from list k 0
-
-  pub chunk_rest : rest ≡ drop (from + length chunk) list
-  chunk_rest = sym (drop-append_seam chunk rest) ∙ ap (drop (length chunk)) (sym cut) ∙ drop-drop (length chunk) from list
+-- number j of chunk i, of chunks of n numbers
+pub chunk_at : (n k : ℕ) (xs : List ℕ) (i j : ℕ) (d : List ℕ) → i < k → j < n → get_or (get_or (first_chunks n k xs) i d) j 0 ≡ get_or xs (i * n + j) 0
+chunk_at n zero xs i j d l m = absurd (omega arith)
+chunk_at n (suc k) xs zero j d l m = get_or-take n xs j 0 m ∙ ap (λ (p : ℕ). get_or xs p 0) (omega arith)
+chunk_at n (suc k) xs (suc i) j d l m = chunk_at n k (drop n xs) i j d (omega arith) m ∙ get_or-drop n xs (i * n + j) 0 ∙ ap (λ (p : ℕ). get_or xs p 0) (omega (arith, suc-mul i n))

@@ -65,7 +65,7 @@ pub fn kind_sum(holdings: &[u32; 512], kind: u32) -> u64
     }
     let column = kind as usize - 1;
     let mut sum: u64 = 0;
-    for row in holdings.chunks_exact(KINDS) {
+    for row in holdings.as_chunks::<KINDS>().0 {
         sum += u64::from(row[column]);
     }
     sum
