@@ -79,8 +79,8 @@ pub fn issue(declared: u8, holdings: &mut [u32; 512], account: Account, count: u
     if SUM_LIMIT < sum {
         return Err(Refusal::from(Reason::SumExceeded));
     }
-    let at = account.place();
-    holdings[at] += count;
+    let held = &mut holdings[account.place()];
+    *held += count;
     Ok(Told::Done)
 }
 
@@ -88,11 +88,11 @@ pub fn redeem(declared: u8, holdings: &mut [u32; 512], account: Account, count: 
     ensures { AnsweredFor declared holdings.old (redeem account.card account.kind count) result holdings.new }
 {
     account.known(declared)?;
-    let at = account.place();
-    if holdings[at] < count {
+    let held = &mut holdings[account.place()];
+    if *held < count {
         return Err(Refusal::from(Reason::HoldingShort));
     }
-    holdings[at] -= count;
+    *held -= count;
     Ok(Told::Done)
 }
 

@@ -11,19 +11,16 @@ returns-in_err-known c = let p = err_from_is_err_and c.from_residual.result c.fr
 pub returns-then-sum-gt-SUM_LIMIT : goal.returns-then-sum-gt-SUM_LIMIT
 returns-then-sum-gt-SUM_LIMIT c = rw c.from-then-sum-gt-SUM_LIMIT.ensures (issue_exceeds _ _ _ _ (account_met _ _ _ _ c.in_ok-known.ensures) _ (rw (c.kind_sum.ensures.0, c.from.ensures) at c.if-sum-gt-SUM_LIMIT.true))
 
-pub bounds-holdings-at : goal.bounds-holdings-at
-bounds-holdings-at c = let k = account_met _ _ _ _ c.in_ok-known.ensures in omega arith
+pub bounds-holdings-place : goal.bounds-holdings-place
+bounds-holdings-place c = let k = account_met _ _ _ _ c.in_ok-known.ensures in omega arith
 
-pub overflow_add-holdings : goal.overflow_add-holdings
-overflow_add-holdings c =
+pub overflow_add-held : goal.overflow_add-held
+overflow_add-held c =
     let given = c.args in
     let part = held_part given.holdings.now _ _ (account_met _ _ _ _ c.in_ok-known.ensures).ranged in
-    rw c.place-at.ensures (omega arith)
-
-pub bounds-holdings-at-2 : goal.bounds-holdings-at-2
-bounds-holdings-at-2 c = let k = account_met _ _ _ _ c.in_ok-known.ensures in omega arith
+    rw c.place.ensures (omega arith)
 
 pub returns : goal.returns
 returns c =
-    rw c.place-at.ensures
+    rw c.place.ensures
     (issue-done _ _ _ _ (account_met _ _ _ _ c.in_ok-known.ensures) _ c.told-holdings (rw (c.kind_sum.ensures.0, c.from.ensures) at c.if-sum-gt-SUM_LIMIT.false))

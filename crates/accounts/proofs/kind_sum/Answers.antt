@@ -1,6 +1,6 @@
 -- Each row is a card's: `SumTo` says of which cards the sum is, and that it stays far below the width.
 use native.Mathlib.Omega.{arith}
-use Rattle.accounts.proofs.AccountLaws.{sum_none, sum_row, sum_nothing, sum_all}
+use Rattle.accounts.proofs.AccountLaws.{sum_none, sum_row, sum_nothing}
 use Rattle.accounts.proofs.kind_sum.Goals as goal
 use Rattle.accounts.proofs.kind_sum.Goals.{then-kind-lt1-via-then-kind-lt1, then-kind-lt1-via-else-kind-lt1+then-kind-gt-KIND_COUNT}
 
