@@ -18,24 +18,24 @@ use Rattle.model.proofs.Places.{up_to_length}
 use Rattle.forms.specs.Numbers.{in_row}
 use Rattle.forms.proofs.Digits.{in_row_lem}
 use Rattle.rulebook.specs.Layout.{card_row_size, card_table_size, length_place, digit_place, rule_row_size, rule_table_size}
-use Rattle.rulebook.specs.View.{card_count, rule_count, cards_of, book_of}
+use Rattle.rulebook.specs.View.{card_count, rule_count, cards_of, tables_book}
 use Rattle.rulebook.specs.Reads.{no_tables, Reads, EveryTextReads}
 use Rattle.rulebook.specs.declared.Tables.{Tables}
 use Rattle.std.specs.Prelude.{Result, Ok, Err, ◌⊎◌}
-use Rattle.std.proofs.Common.{inl, inr, ⊎_elim, sym}
+use Rattle.std.proofs.Common.{inl, inr, ⊎_elim, sym, ap, ◌∙◌}
 use Rattle.answers.specs.View.{answer_of, number_of}
 use Rattle.answers.specs.declared.Reason.{Reason}
 use Rattle.answers.specs.declared.Reason.TheVariants as reason
 use Rattle.answers.specs.declared.Refusal.{Refusal}
 use Rattle.rulebook.specs.inner.Writes.{Written, CardAdded, MemberAdded, RuleAdded}
 use Rattle.rulebook.specs.inner.Rows.{row_of}
-use Rattle.rulebook.specs.inner.Lines.{card_questions, group_questions, rule_questions, AddedUnless, Sized, at_line, LineTaken}
+use Rattle.rulebook.specs.inner.Lines.{card_questions, group_questions, rule_questions, AddedUnless, at_line, LineTaken}
 use Rattle.rulebook.proofs.Written.{written_none, written_more, byte_written, card-added, member-added, rule-added}
 use Rattle.rulebook.proofs.Rows.{row-length}
 use Rattle.rulebook.proofs.Grown.{no_tables_lem}
 use Rattle.rulebook.proofs.Forms.{how_many, refuses, takes}
 use Rattle.rulebook.proofs.Lines.{card-room, group-room, rule-room, card-line, group-line, rule-line, no_line}
-use Rattle.rulebook.proofs.Texts.{empty, empty_sized, reads_refused, reads_done}
+use Rattle.rulebook.proofs.Texts.{reads_refused, reads_done}
 
 -- ---- a row written
 
@@ -83,32 +83,61 @@ asks : (questions : List Question) (Added : List ℕ → Type 0) (t : List ℕ) 
 asks questions Added t reasons add =
     ⊎_elim (λ z. let more = add z in (Ok tt, more.0, takes (sym z) more.1)) (λ named. (Err named.0, t, refuses named.1)) (unmet questions reasons)
 
-module _ (w cards rules : List ℕ) (sized : Sized cards rules) where
+-- the tables have their types' lengths
+record Sized (t : Tables) : Type 0 where
+  cards-size : length t.cards ≡ card_table_size
+  rules-size : length t.rules ≡ rule_table_size
+
+-- a table that a line leaves has the length that it had
+kept-size : {questions : List Question} {Added : List ℕ → Type 0} {r : Result (Unit {0}) Reason} {t t' : List ℕ} → AddedUnless questions Added r t t'
+    → ((u : List ℕ) → Added u → length u ≡ length t) → length t' ≡ length t
+kept-size {r = Ok _} {t' = t'} h f = f t' h.added
+kept-size {r = Err _} h f = ap length h.kept
+
+module _ (w : List ℕ) (t : Tables) (sized : Sized t) where
   record Line : Type 0 where
     result : Result (Unit {0}) Reason
-    next-cards : List ℕ
-    next-rules : List ℕ
-    taken : LineTaken w cards rules result next-cards next-rules
+    next : Tables
+    taken : LineTaken w t result next
+    next-sized : Sized next
 
   card : get_or w 0 0 ≡ code "C" → Line
   card first =
-      let asked = asks (card_questions (cards_of cards) w) (CardAdded (card_digits (card_read w)) cards) cards ((reason.NoForm, refl), ((reason.TooManyCards, refl), ((reason.BadCardNumber, refl), ((reason.CardRepeated, refl), tt)))) (λ z.
-      let room = card-room (cards_of cards) w z in
-      a_card (card_digits (card_read w)) cards sized.cards-size (omega (arith, room, how_many cards)) room.2) in
-      record { result = asked.0; next-cards = asked.1; next-rules = rules; taken = card-line sized first (record { asked = asked.2 }) }
+      let asked = asks (card_questions (cards_of t.cards) w) (CardAdded (card_digits (card_read w)) t.cards) t.cards
+      ((reason.NoForm, refl), ((reason.TooManyCards, refl), ((reason.BadCardNumber, refl), ((reason.CardRepeated, refl), tt)))) (λ z.
+      let room = card-room (cards_of t.cards) w z in
+      a_card (card_digits (card_read w)) t.cards sized.cards-size (omega (arith, room, how_many t.cards)) room.2) in
+      record {
+        result = asked.0;
+        next = record { cards = asked.1; rules = t.rules };
+        taken = card-line first (record { asked = asked.2 });
+        next-sized = record { cards-size = kept-size asked.2 (λ u a. a.size) ∙ sized.cards-size; rules-size = sized.rules-size };
+      }
 
   group : get_or w 0 0 ≡ code "G" → Line
   group first =
-      let asked = asks (group_questions (card_count cards) w) (MemberAdded (group_of (get_or w 2 0)) (number_at w 4) cards) cards ((reason.NoForm, refl), ((reason.CardNotAbove, refl), tt)) (λ z.
-      let j = group-room cards w z in
-      (_, member-added (group_of (get_or w 2 0)) (number_at w 4) cards j.numbers.group-low j.numbers.group_high j.numbers.card-low j.card_high sized.cards-size)) in
-      record { result = asked.0; next-cards = asked.1; next-rules = rules; taken = group-line sized first (record { asked = asked.2 }) }
+      let asked = asks (group_questions (card_count t.cards) w) (MemberAdded (group_of (get_or w 2 0)) (number_at w 4) t.cards) t.cards
+      ((reason.NoForm, refl), ((reason.CardNotAbove, refl), tt)) (λ z.
+      let j = group-room t.cards w z in
+      (_, member-added (group_of (get_or w 2 0)) (number_at w 4) t.cards j.numbers.group-low j.numbers.group_high j.numbers.card-low j.card_high sized.cards-size)) in
+      record {
+        result = asked.0;
+        next = record { cards = asked.1; rules = t.rules };
+        taken = group-line first (record { asked = asked.2 });
+        next-sized = record { cards-size = kept-size asked.2 (λ u a. a.size) ∙ sized.cards-size; rules-size = sized.rules-size };
+      }
 
   rule : get_or w 0 0 ≡ code "R" → Line
   rule first =
-      let asked = asks (rule_questions (card_count cards) (rule_count rules) w) (RuleAdded (row_of w) rules) rules ((reason.NoForm, refl), ((reason.CardNotAbove, refl), ((reason.TooManyRules, refl), tt))) (λ z.
-      a_rule (row_of w) rules sized.rules-size (rule-room (card_count cards) rules w z).1 (row-length w)) in
-      record { result = asked.0; next-cards = cards; next-rules = asked.1; taken = rule-line sized first (record { asked = asked.2 }) }
+      let asked = asks (rule_questions (card_count t.cards) (rule_count t.rules) w) (RuleAdded (row_of w) t.rules) t.rules
+      ((reason.NoForm, refl), ((reason.CardNotAbove, refl), ((reason.TooManyRules, refl), tt))) (λ z.
+      a_rule (row_of w) t.rules sized.rules-size (rule-room (card_count t.cards) t.rules w z).1 (row-length w)) in
+      record {
+        result = asked.0;
+        next = record { cards = t.cards; rules = asked.1 };
+        taken = rule-line first (record { asked = asked.2 });
+        next-sized = record { cards-size = sized.cards-size; rules-size = kept-size asked.2 (λ u a. a.size) ∙ sized.rules-size };
+      }
 
   line : Line
   line = go (eqb (get_or w 0 0) (code "C")) (eqb (get_or w 0 0) (code "G")) (eqb (get_or w 0 0) (code "R")) refl refl refl
@@ -119,52 +148,52 @@ module _ (w cards rules : List ℕ) (sized : Sized cards rules) where
       go false false true p q r = rule (eqb-true (get_or w 0 0) (code "R") r)
       go false false false p q r = record {
         result = Err reason.NoForm;
-        next-cards = cards;
-        next-rules = rules;
-        taken = no_line sized (eqb-false (get_or w 0 0) (code "C") p) (eqb-false (get_or w 0 0) (code "G") q) (eqb-false (get_or w 0 0) (code "R") r);
+        next = t;
+        taken = no_line (eqb-false (get_or w 0 0) (code "C") p) (eqb-false (get_or w 0 0) (code "G") q) (eqb-false (get_or w 0 0) (code "R") r);
+        next-sized = sized;
       }
 
 -- ---- the lines of a text
 
 -- an answer is a refusal, or the book of some tables
 data Held : Answer Book → Type 0 where
-  held : (cards rules : List ℕ) → Held (ok (book_of cards rules))
+  held : (t : Tables) → Held (ok (tables_book t))
   not : (r : Refusal) → Held (refused (number_of r.reason) r.place)
 
 -- a line leads to the next one, over the tables that it leaves
 module _ (ws : List (List ℕ)) (last : List ℕ) (i : ℕ) where
-  line_then : {w cards rules : List ℕ} {sized : Sized cards rules} (l : Line w cards rules sized)
-      → Held (open_lines (i + 1) (book_of l.next-cards l.next-rules) ws last) → Held (open_lines i (book_of cards rules) (w ∷ ws) last)
+  line_then : {w : List ℕ} {t : Tables} {sized : Sized t} (l : Line w t sized)
+      → Held (open_lines (i + 1) (tables_book l.next) ws last) → Held (open_lines i (tables_book t) (w ∷ ws) last)
   unfolding open_lines
   line_then l rest = subst (λ (a : Answer Book). Held (and_then a (λ b. open_lines (i + 1) b ws last))) (l.taken.answer i) (go l.result)
     where
-      go : (r : Result (Unit {0}) Reason) → Held (and_then (answer_of (book_of l.next-cards l.next-rules) (at_line i r)) (λ b. open_lines (i + 1) b ws last))
+      go : (r : Result (Unit {0}) Reason) → Held (and_then (answer_of (tables_book l.next) (at_line i r)) (λ b. open_lines (i + 1) b ws last))
       go (Ok _) = rest
       go (Err reason) = not (record { reason = reason; place = i })
 
-lines : (ws : List (List ℕ)) (last : List ℕ) (i : ℕ) (cards rules : List ℕ) → Sized cards rules → Held (open_lines i (book_of cards rules) ws last)
+lines : (ws : List (List ℕ)) (last : List ℕ) (i : ℕ) (t : Tables) → Sized t → Held (open_lines i (tables_book t) ws last)
 unfolding open_lines
-lines [] last i cards rules sized = go (eqb (length last) 0)
+lines [] last i t sized = go (eqb (length last) 0)
   where
-    go : (x : Bool) → Held (cond x (ok (book_of cards rules)) (refused 2 i))
-    go true = held cards rules
+    go : (x : Bool) → Held (cond x (ok (tables_book t)) (refused 2 i))
+    go true = held t
     go false = not (record { reason = reason.NoForm; place = i })
-lines (w ∷ ws) last i cards rules sized =
-    let l = line w cards rules sized in
-    line_then ws last i l (lines ws last (i + 1) l.next-cards l.next-rules l.taken.sized)
+lines (w ∷ ws) last i t sized =
+    let l = line w t sized in
+    line_then ws last i l (lines ws last (i + 1) l.next l.next-sized)
 
 opens : (text : List ℕ) → Held (opening text)
 unfolding opening
 opens text = go (leb (length text) text_limit)
   where
     go : (x : Bool) → Held (cond x (open_lines 1 no_book (cut text).lines (cut text).last) (refused 1 0))
-    go true = rw (no_tables_lem empty) at (lines (cut text).lines (cut text).last 1 no_tables.cards no_tables.rules (empty_sized empty))
+    go true = rw no_tables_lem at (lines (cut text).lines (cut text).last 1 no_tables (record { cards-size = refl; rules-size = refl }))
     go false = not (record { reason = reason.TextTooLong; place = 0 })
 
 -- a reading of a text with this answer
 reading : {text : List ℕ} {a : Answer Book} → Held a → opening text ≡ a → (r : Result Tables Refusal) × Reads r text
-reading (held cards rules) e = (_, reads_done {t = record { cards = cards; rules = rules }} e)
-reading (not r) e = (_, reads_refused e)
+reading (held t) e = (Ok t, reads_done e)
+reading (not r) e = (Err r, reads_refused e)
 
 pub text_reads : EveryTextReads
 text_reads text = reading (opens text) refl

@@ -16,9 +16,9 @@ use Rattle.model.specs.Opening.{card_digits, with_line}
 use Rattle.model.proofs.Tests.{within-true, and-false_right, or_true_right, or_false_right}
 use Rattle.model.proofs.Places.{up_to_cong, up_to_length, up_to_at, all_equal}
 use Rattle.rulebook.specs.Layout.{card_row_size, card_table_size, card_byte, length_place, digit_place, group_place, rule_row_size, rule_byte, row_at}
-use Rattle.rulebook.specs.View.{card_count, card_length, digit_at, card_view, member_view, rule_view, rule_count, book_of}
+use Rattle.rulebook.specs.View.{card_count, card_length, digit_at, card_view, member_view, rule_view, rule_count, book_of, tables_book}
 use Rattle.rulebook.specs.inner.Writes.{CardAdded, MemberAdded, RuleAdded}
-use Rattle.rulebook.specs.inner.Lines.{Empty}
+use Rattle.rulebook.specs.Reads.{no_tables}
 
 -- a list by its places
 listed : (f : ℕ → ℕ) (s : List ℕ) → ((j : ℕ) → j < length s → f j ≡ get_or s j 0) → up_to f (length s) ≡ s
@@ -115,9 +115,8 @@ module _ {g m : ℕ} {cards cards' : List ℕ} (g-low : 1 ≤ g) (g-high : g ≤
 
 -- ---- the empty tables
 
-pub no_tables_lem : {cards rules : List ℕ} → Empty cards rules → book_of cards rules ≡ no_book
+pub no_tables_lem : tables_book no_tables ≡ no_book
 unfolding book_of member_view card_count rule_count
-no_tables_lem e =
-    rw (e.no_cards, e.no_rules)
-    (ap (λ (f : ℕ → ℕ → Bool). record { cards = []; member = f; rules = [] })
-    (fun_ext (λ g. fun_ext (λ m. rw (all_equal {A = ℕ} 0 card_table_size (m * card_row_size + group_place g)) (and-false_right (within g group_count && within m card_limit))))))
+no_tables_lem =
+    ap (λ (f : ℕ → ℕ → Bool). record { cards = []; member = f; rules = [] })
+    (fun_ext (λ g. fun_ext (λ m. rw (all_equal {A = ℕ} 0 card_table_size (m * card_row_size + group_place g)) (and-false_right (within g group_count && within m card_limit)))))

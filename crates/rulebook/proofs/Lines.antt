@@ -22,8 +22,9 @@ use Rattle.answers.specs.View.{answer_of, number_of}
 use Rattle.answers.specs.declared.Reason.{Reason}
 use Rattle.answers.specs.declared.Reason.TheVariants.{NoForm}
 use Rattle.answers.proofs.Numbers.{number_positive}
-use Rattle.rulebook.specs.View.{card_count, rule_count, cards_of, book_of}
-use Rattle.rulebook.specs.inner.Lines.{card_questions, group_questions, rule_questions, number_in, AddedUnless, CardTaken, GroupTaken, RuleTaken, Sized, at_line, LineTaken}
+use Rattle.rulebook.specs.declared.Tables.{Tables}
+use Rattle.rulebook.specs.View.{card_count, rule_count, cards_of, tables_book}
+use Rattle.rulebook.specs.inner.Lines.{card_questions, group_questions, rule_questions, number_in, AddedUnless, CardTaken, GroupTaken, RuleTaken, at_line, LineTaken}
 use Rattle.rulebook.proofs.Books.{cards_are, card-count, rule-count, count_small}
 use Rattle.rulebook.proofs.Rows.{row-says, row-length}
 use Rattle.rulebook.proofs.Grown.{card_grown, member_grown, rule_grown}
@@ -36,30 +37,26 @@ asked b (card ds) = tt
 asked b (group g m) = tt
 asked b (rule r) = tt
 
-module _ (w cards rules cards' rules' : List ℕ) (l : Line) (x : Bool) (is : read_line w ≡ some_if x l) where
-  opened : (i : ℕ) → open_line i (book_of cards rules) w ≡ in_order ((2 unless x) ∷ line_questions (book_of cards rules) l) i (ok (with_line (book_of cards rules) l))
+module _ (w : List ℕ) (t t' : Tables) (l : Line) (x : Bool) (is : read_line w ≡ some_if x l) where
+  opened : (i : ℕ) → open_line i (tables_book t) w ≡ in_order ((2 unless x) ∷ line_questions (tables_book t) l) i (ok (with_line (tables_book t) l))
   unfolding open_line add_line
   opened i = rw (is, open_line) (go x)
     where
-      go : (x : Bool) → elim (some_if x l) [ none ↦ refused 2 i | some l ↦ in_order (line_questions (book_of cards rules) l) i (ok (with_line (book_of cards rules) l)) ]
-          ≡ in_order ((2 unless x) ∷ line_questions (book_of cards rules) l) i (ok (with_line (book_of cards rules) l))
+      go : (x : Bool) → elim (some_if x l) [ none ↦ refused 2 i | some l ↦ in_order (line_questions (tables_book t) l) i (ok (with_line (tables_book t) l)) ]
+          ≡ in_order ((2 unless x) ∷ line_questions (tables_book t) l) i (ok (with_line (tables_book t) l))
       go true = refl
       go false = refl
 
-  line-answer : (r : Result (Unit {0}) Reason) → number_in r ≡ first_unmet ((2 unless x) ∷ line_questions (book_of cards rules) l)
-      → OnOk r (book_of cards' rules' ≡ with_line (book_of cards rules) l) → (i : ℕ) → answer_of (book_of cards' rules') (at_line i r) ≡ open_line i (book_of cards rules) w
-  line-answer r e h i =
-      go r _ _ e h ∙ sym (first_refuses ((2 unless x) ∷ line_questions (book_of cards rules) l) i (ok (with_line (book_of cards rules) l)) (asked (book_of cards rules) l)) ∙ sym (opened i)
+  line-answer : (r : Result (Unit {0}) Reason) → number_in r ≡ first_unmet ((2 unless x) ∷ line_questions (tables_book t) l)
+      → OnOk r (tables_book t' ≡ with_line (tables_book t) l) → LineTaken w t r t'
+  line-answer r e h = record {
+    answer = λ i.
+        go i r _ _ e h ∙ sym (first_refuses ((2 unless x) ∷ line_questions (tables_book t) l) i (ok (with_line (tables_book t) l)) (asked (tables_book t) l)) ∙ sym (opened i);
+  }
     where
-      go : (r : Result (Unit {0}) Reason) {n : ℕ} (b b' : Book) → number_in r ≡ n → OnOk r (b' ≡ b) → answer_of b' (at_line i r) ≡ cond (eqb n 0) (ok b) (refused n i)
-      go (Ok _) b b' e h = rw (sym e) (ap ok h)
-      go (Err reason) b b' e h = rw (sym e, ne_eqb (number_of reason) 0 (λ z. omega (arith, number_positive reason, z)))
-
--- a table that a line leaves has the length that it had
-kept-size : {questions : List Question} {Added : List ℕ → Type 0} {r : Result (Unit {0}) Reason} {t t' : List ℕ} → AddedUnless questions Added r t t'
-    → ((u : List ℕ) → Added u → length u ≡ length t) → length t' ≡ length t
-kept-size {r = Ok _} {t' = t'} h f = f t' h.added
-kept-size {r = Err _} h f = ap length h.kept
+      go : (i : ℕ) (r : Result (Unit {0}) Reason) {n : ℕ} (b b' : Book) → number_in r ≡ n → OnOk r (b' ≡ b) → answer_of b' (at_line i r) ≡ cond (eqb n 0) (ok b) (refused n i)
+      go i (Ok _) b b' e h = rw (sym e) (ap ok h)
+      go i (Err reason) b b' e h = rw (sym e, ne_eqb (number_of reason) 0 (λ z. omega (arith, number_positive reason, z)))
 
 -- what is said of a line that is taken
 taken-as : {questions : List Question} {Added : List ℕ → Type 0} {r : Result (Unit {0}) Reason} {t t' : List ℕ} {P : Type 0} → AddedUnless questions Added r t t'
@@ -122,49 +119,34 @@ rule-room cards rules w e =
     let b = met 6 (leb 1 (number_at w 2) && leb (number_at w 2) cards) _ (omega arith) a.1 in
     (a.0, ltb-true (rule_count rules) rule_limit (met 7 (ltb (rule_count rules) rule_limit) 0 (omega arith) b.1).0)
 
-pub card-line : {w cards rules : List ℕ} → Sized cards rules → get_or w 0 0 ≡ code "C" → {r : Result (Unit {0}) Reason} {cards' : List ℕ}
-    → CardTaken w cards r cards' → LineTaken w cards rules r cards' rules
-card-line {w} {cards} {rules} sized first {r} {cards'} h = record {
-  answer = line-answer w cards rules cards' rules (card (card_read w)) (is_card_line w) (card_reads w first) r (rw (cards_are cards rules) h.asked.first) new;
-  sized = record { cards-size = kept-size h.asked (λ u a. a.size) ∙ sized.cards-size; rules-size = sized.rules-size };
-}
-  where
-    new : OnOk r (book_of cards' rules ≡ with_line (book_of cards rules) (card (card_read w)))
-    new = taken-as h.asked (λ z a. let room = card-room (cards_of cards) w z in card_grown (card_read w) a room.1 room.2 rules)
+-- ---- a line's answer, by its first letter
 
-pub group-line : {w cards rules : List ℕ} → Sized cards rules → get_or w 0 0 ≡ code "G" → {r : Result (Unit {0}) Reason} {cards' : List ℕ}
-    → GroupTaken w cards r cards' → LineTaken w cards rules r cards' rules
-group-line {w} {cards} {rules} sized first {r} {cards'} h = record {
-  answer =
-      line-answer w cards rules cards' rules (group (group_of (get_or w 2 0)) (number_at w 4)) (is_group_line w) (group_reads w first) r (rw (card-count cards rules) h.asked.first) new;
-  sized = record { cards-size = kept-size h.asked (λ u a. a.size) ∙ sized.cards-size; rules-size = sized.rules-size };
-}
-  where
-    new : OnOk r (book_of cards' rules ≡ with_line (book_of cards rules) (group (group_of (get_or w 2 0)) (number_at w 4)))
-    new = taken-as h.asked (λ z a. let j = group-room cards w z in member_grown j.numbers.group-low j.numbers.group_high j.numbers.card-low j.card_high a rules)
+module _ {w : List ℕ} {t : Tables} where
+  pub card-line : get_or w 0 0 ≡ code "C" → {r : Result (Unit {0}) Reason} {cards' : List ℕ} → CardTaken w t.cards r cards'
+      → LineTaken w t r (record { cards = cards'; rules = t.rules })
+  card-line first {r} h =
+      line-answer w t _ (card (card_read w)) (is_card_line w) (card_reads w first) r (rw (cards_are t.cards t.rules) h.asked.first)
+      (taken-as h.asked (λ z a. let room = card-room (cards_of t.cards) w z in card_grown (card_read w) a room.1 room.2 t.rules))
 
-pub rule-line : {w cards rules : List ℕ} → Sized cards rules → get_or w 0 0 ≡ code "R" → {r : Result (Unit {0}) Reason} {rules' : List ℕ}
-    → RuleTaken w (card_count cards) rules r rules' → LineTaken w cards rules r cards rules'
-rule-line {w} {cards} {rules} sized first {r} {rules'} h = record {
-  answer =
-      line-answer w cards rules cards rules' (rule (rule_read w)) (is_rule_line w) (rule_reads w first) r
-      (rw (card-count cards rules, rule-count cards rules, owner-is w) h.asked.first) new;
-  sized = record { cards-size = sized.cards-size; rules-size = kept-size h.asked (λ u a. a.size) ∙ sized.rules-size };
-}
-  where
-    new : OnOk r (book_of cards rules' ≡ with_line (book_of cards rules) (rule (rule_read w)))
-    new =
-        taken-as h.asked
-        (λ z a.
-        let formed = (rule-room (card_count cards) rules w z).0 in
-        rule_grown a (row-length w) cards ∙ ap (λ (x : Rule). with_line (book_of cards rules) (rule x)) (row-says w (headed w formed)))
+  pub group-line : get_or w 0 0 ≡ code "G" → {r : Result (Unit {0}) Reason} {cards' : List ℕ} → GroupTaken w t.cards r cards'
+      → LineTaken w t r (record { cards = cards'; rules = t.rules })
+  group-line first {r} h =
+      line-answer w t _ (group (group_of (get_or w 2 0)) (number_at w 4)) (is_group_line w) (group_reads w first) r (rw (card-count t.cards t.rules) h.asked.first)
+      (taken-as h.asked (λ z a. let j = group-room t.cards w z in member_grown j.numbers.group-low j.numbers.group_high j.numbers.card-low j.card_high a t.rules))
 
--- any other first letter
-pub no_line : {w cards rules : List ℕ} → Sized cards rules → (get_or w 0 0 ≡ code "C" → ⊥) → (get_or w 0 0 ≡ code "G" → ⊥) → (get_or w 0 0 ≡ code "R" → ⊥) → LineTaken w cards rules (Err NoForm) cards rules
-unfolding read_line
-no_line {w} {cards} {rules} sized a b d = record {
-  answer =
-      line-answer w cards rules cards rules (card []) false
-      (rw (ne_eqb (get_or w 0 0) (code "C") a, ne_eqb (get_or w 0 0) (code "G") b, ne_eqb (get_or w 0 0) (code "R") d)) (Err NoForm) refl tt;
-  sized = sized;
-}
+  pub rule-line : get_or w 0 0 ≡ code "R" → {r : Result (Unit {0}) Reason} {rules' : List ℕ} → RuleTaken w (card_count t.cards) t.rules r rules'
+      → LineTaken w t r (record { cards = t.cards; rules = rules' })
+  rule-line first {r} h =
+      line-answer w t _ (rule (rule_read w)) (is_rule_line w) (rule_reads w first) r
+      (rw (card-count t.cards t.rules, rule-count t.cards t.rules, owner-is w) h.asked.first)
+      (taken-as h.asked
+      (λ z a.
+      let formed = (rule-room (card_count t.cards) t.rules w z).0 in
+      rule_grown a (row-length w) t.cards ∙ ap (λ (x : Rule). with_line (tables_book t) (rule x)) (row-says w (headed w formed))))
+
+  -- any other first letter
+  pub no_line : (get_or w 0 0 ≡ code "C" → ⊥) → (get_or w 0 0 ≡ code "G" → ⊥) → (get_or w 0 0 ≡ code "R" → ⊥) → LineTaken w t (Err NoForm) t
+  unfolding read_line
+  no_line a b d =
+      line-answer w t t (card []) false
+      (rw (ne_eqb (get_or w 0 0) (code "C") a, ne_eqb (get_or w 0 0) (code "G") b, ne_eqb (get_or w 0 0) (code "R") d)) (Err NoForm) refl tt

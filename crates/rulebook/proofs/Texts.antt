@@ -19,9 +19,9 @@ use Rattle.std.specs.Prelude.{Result, Ok, Err}
 use Rattle.answers.specs.View.{answer_of, number_of}
 use Rattle.answers.specs.declared.Reason.{Reason}
 use Rattle.answers.specs.declared.Refusal.{Refusal}
-use Rattle.rulebook.specs.View.{book_of}
+use Rattle.rulebook.specs.View.{tables_book}
 use Rattle.rulebook.specs.Reads.{no_tables, Reads}
-use Rattle.rulebook.specs.inner.Lines.{Sized, Empty, at_line, LineTaken}
+use Rattle.rulebook.specs.inner.Lines.{at_line, LineTaken}
 use Rattle.rulebook.specs.declared.Tables.{Tables}
 use Rattle.rulebook.proofs.Grown.{no_tables_lem}
 
@@ -57,21 +57,21 @@ pub too_long : (text : List ℕ) → 16_384 < length text → opening text ≡ r
 unfolding opening
 too_long text l = rw (lt-leb (length text) 16_384 l)
 
-pub starts : (text : List ℕ) → length text ≤ 16_384 → {cards rules : List ℕ} → Empty cards rules → open_from text 0 1 (book_of cards rules) ≡ opening text
+pub starts : (text : List ℕ) → length text ≤ 16_384 → (t : Tables) → t ≡ no_tables → open_from text 0 1 (tables_book t) ≡ opening text
 unfolding open_from opening
-starts text l e = rw (no_tables_lem e, le-leb (length text) 16_384 l)
+starts text l t e = rw (ap tables_book e ∙ no_tables_lem, le-leb (length text) 16_384 l)
 
 pub all_read : (text : List ℕ) (at i : ℕ) (b : Book) → open_from text at i b ≡ opening text → at ≡ length text → opening text ≡ ok b
 unfolding open_from open_lines cut
 all_read text at i b h e = sym h ∙ rw (e, drop-length text)
 
 -- a turn at the place at, over the two tables, where the line ends at the place end
-pub record Turn (text : List ℕ) (at i end : ℕ) (cards rules : List ℕ) : Type 0 where
-  pub so_far : open_from text at i (book_of cards rules) ≡ opening text
+pub record Turn (text : List ℕ) (at i end : ℕ) (t : Tables) : Type 0 where
+  pub so_far : open_from text at i (tables_book t) ≡ opening text
   pub within : at < length text
   pub ends : end ≡ at + until (code "\n") (drop at text)
 
-module _ {text : List ℕ} {at i end : ℕ} {cards rules : List ℕ} (turn : Turn text at i end cards rules) where
+module _ {text : List ℕ} {at i end : ℕ} {t : Tables} (turn : Turn text at i end t) where
   pub no-LF : end ≡ length text → opening text ≡ refused 2 i
   unfolding open_from open_lines
   no-LF p =
@@ -84,7 +84,7 @@ module _ {text : List ℕ} {at i end : ℕ} {cards rules : List ℕ} (turn : Tur
     abbrev line : List ℕ
     line = take (end - at) (drop at text)
 
-    line_first : opening text ≡ and_then (open_line i (book_of cards rules) line) (λ b. open_from text (end + 1) (i + 1) b)
+    line_first : opening text ≡ and_then (open_line i (tables_book t) line) (λ b. open_from text (end + 1) (i + 1) b)
     unfolding open_from open_lines
     line_first =
         let n = length-drop at text in
@@ -94,22 +94,16 @@ module _ {text : List ℕ} {at i end : ℕ} {cards rules : List ℕ} (turn : Tur
         sym turn.so_far ∙ rw (cut_line (drop at text) (omega arith), k, drop-drop (suc (end - at)) at text, s)
 
     -- m: the line's result with its number
-    pub line_says : {r : Result (Unit {0}) Reason} {cards' rules' : List ℕ} → LineTaken line cards rules r cards' rules' → (m : Result (Unit {0}) Refusal) → m ≡ at_line i r
-        → opening text ≡ and_then (answer_of (book_of cards' rules') m) (λ b. open_from text (end + 1) (i + 1) b)
+    pub line_says : {r : Result (Unit {0}) Reason} {t' : Tables} → LineTaken line t r t' → (m : Result (Unit {0}) Refusal) → m ≡ at_line i r
+        → opening text ≡ and_then (answer_of (tables_book t') m) (λ b. open_from text (end + 1) (i + 1) b)
     line_says taken m e = line_first ∙ rw (sym (taken.answer i), e)
 
 -- ---- what `read` returns
 
-pub empty : Empty no_tables.cards no_tables.rules
-empty = record { no_cards = refl; no_rules = refl }
-
 pub reads_refused : {text : List ℕ} {r : Refusal} → opening text ≡ refused (number_of r.reason) r.place → Reads (Err r) text
 unfolding model.opened_book
-reads_refused o = record { answer = sym o; book = rw o (no_tables_lem empty) }
+reads_refused o = record { answer = sym o; book = rw o no_tables_lem }
 
-pub reads_done : {text : List ℕ} {t : Tables} → opening text ≡ ok (book_of t.cards t.rules) → Reads (Ok t) text
+pub reads_done : {text : List ℕ} {t : Tables} → opening text ≡ ok (tables_book t) → Reads (Ok t) text
 unfolding model.opened_book
 reads_done o = record { answer = sym o; book = rw o }
-
-pub empty_sized : {cards rules : List ℕ} → Empty cards rules → Sized cards rules
-empty_sized e = record { cards-size = ap length e.no_cards; rules-size = ap length e.no_rules }

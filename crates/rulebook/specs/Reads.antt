@@ -6,7 +6,7 @@ use Rattle.model.specs.Opening.{opening, opened_book}
 use Rattle.answers.specs.View.{number_of}
 use Rattle.answers.specs.declared.Refusal.{Refusal}
 use Rattle.rulebook.specs.Layout.{card_table_size, rule_table_size}
-use Rattle.rulebook.specs.View.{book_of}
+use Rattle.rulebook.specs.View.{tables_book}
 use Rattle.rulebook.specs.declared.Tables.{Tables}
 
 -- tables that are all zero: a book without cards
@@ -15,7 +15,7 @@ no_tables = record { cards = replicate card_table_size 0; rules = replicate rule
 
 -- what reading answers: the book of the tables, or the refusal
 abbrev pub read_answer : Result Tables Refusal → Answer Book
-read_answer (Ok t) = ok (book_of t.cards t.rules)
+read_answer (Ok t) = ok (tables_book t)
 read_answer (Err r) = refused (number_of r.reason) r.place
 
 -- the tables in force after reading: those of the empty text where it is refused
@@ -26,7 +26,7 @@ tables_after (Err r) = no_tables
 -- The answer is the opening's, which tells the book of the tables; the tables in force hold the book that is in force.
 pub record Reads (result : Result Tables Refusal) (text : List ℕ) : Type 0 where
   pub answer : read_answer result ≡ opening text
-  pub book : book_of (tables_after result).cards (tables_after result).rules ≡ opened_book text
+  pub book : tables_book (tables_after result) ≡ opened_book text
 
 -- every text has a reading
 abbrev pub EveryTextReads : Type 0

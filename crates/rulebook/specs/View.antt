@@ -5,6 +5,7 @@ use Rattle.model.specs.Limits.{card_limit, rule_limit, group_count, variable_cou
 use Rattle.model.specs.Lists.{within, up_to}
 use Rattle.model.specs.Grammar.{Name, var, star, Price, Condition, in_group, same_issuer, Rule}
 use Rattle.model.specs.Book.{Book}
+use Rattle.rulebook.specs.declared.Tables.{Tables}
 use Rattle.rulebook.specs.Layout.{count_place, card_byte, length_place, digit_place, group_place, row_at, owner_place, kind_place, head_place, price_count_place, condition_count_place}
 use Rattle.rulebook.specs.Layout.{price_giver_place, price_kind_place, price_receiver_place, group_asked_place, first_name_place, second_name_place}
 
@@ -102,3 +103,6 @@ rules_of rules = up_to (λ i. rule_view (row_at rules (suc i))) (rule_count rule
 
 unfoldable pub book_of : List ℕ → List ℕ → Book
 book_of cards rules = record { cards = cards_of cards; member = member_view cards; rules = rules_of rules }
+
+abbrev pub tables_book : Tables → Book
+tables_book t = book_of t.cards t.rules

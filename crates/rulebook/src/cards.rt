@@ -37,7 +37,6 @@ fn is_known(number: CardNumber, cards: &CardTable) -> bool
 
 // Questions 2 to 5.
 pub(crate) fn take(line: &[u8], cards: &mut CardTable) -> Result<(), Reason>
-    requires { length cards.old ≡ card_table_size }
     ensures { CardTaken line.now cards.old result cards.new }
 {
     let number = forms::card_number(line);

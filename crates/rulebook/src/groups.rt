@@ -9,7 +9,6 @@ use answers::Reason;
 
 // Questions 2 and 6.
 pub(crate) fn take(line: &[u8], cards: &mut CardTable) -> Result<(), Reason>
-    requires { length cards.old ≡ card_table_size }
     ensures { GroupTaken line.now cards.old result cards.new }
 {
     if !forms::is_group_line(line) {

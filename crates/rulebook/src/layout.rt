@@ -195,7 +195,6 @@ pub fn second_name(row: &[u8], i: u8) -> u8
 // ---- a rule's row written
 
 pub(crate) fn put_head(row: &mut RuleRow, owner: u8, kind: u8, head: u8, prices: u8, conditions: u8)
-    requires { length row.old ≡ rule_row_size }
     ensures { row.new ≡ with_head owner kind head prices conditions row.old }
 {
     row[OWNER] = owner;
@@ -206,7 +205,7 @@ pub(crate) fn put_head(row: &mut RuleRow, owner: u8, kind: u8, head: u8, prices:
 }
 
 pub(crate) fn put_price(row: &mut RuleRow, i: usize, giver: u8, kind: u8, receiver: u8)
-    requires { (length row.old ≡ rule_row_size) × (i < price_limit) }
+    requires { i < price_limit }
     ensures { row.new ≡ with_price i giver kind receiver row.old }
 {
     row[PRICE_GIVER + i * ENTRY_SIZE] = giver;
@@ -215,7 +214,7 @@ pub(crate) fn put_price(row: &mut RuleRow, i: usize, giver: u8, kind: u8, receiv
 }
 
 pub(crate) fn put_condition(row: &mut RuleRow, i: usize, group: u8, first: u8, second: u8)
-    requires { (length row.old ≡ rule_row_size) × (i < condition_limit) }
+    requires { i < condition_limit }
     ensures { row.new ≡ with_condition i group first second row.old }
 {
     row[GROUP_ASKED + i * ENTRY_SIZE] = group;
@@ -237,7 +236,7 @@ fn write(table: &mut [u8], at: usize, row: &[u8])
 
 // One card more. The bytes of its groups are as they were.
 pub(crate) fn add_card(cards: &mut CardTable, number: CardNumber)
-    requires { (length cards.old ≡ card_table_size) × (card_count cards.old < card_limit) × (number.count ≤ most_digits) }
+    requires { (card_count cards.old < card_limit) × (number.count ≤ most_digits) }
     ensures { CardAdded (digits_in number) cards.old cards.new }
 {
     let m = card_count(cards) + 1;
@@ -250,7 +249,7 @@ pub(crate) fn add_card(cards: &mut CardTable, number: CardNumber)
 
 // Card m is in the group.
 pub(crate) fn add_member(cards: &mut CardTable, group: u8, m: u8)
-    requires { (length cards.old ≡ card_table_size) × ((1 ≤ group) × (group ≤ group_count)) × ((1 ≤ m) × (m ≤ card_limit)) }
+    requires { ((1 ≤ group) × (group ≤ group_count)) × ((1 ≤ m) × (m ≤ card_limit)) }
     ensures { MemberAdded group m cards.old cards.new }
 {
     let at = m as usize * CARD_ROW + (BEFORE_GROUPS + group as usize);
@@ -259,7 +258,7 @@ pub(crate) fn add_member(cards: &mut CardTable, group: u8, m: u8)
 
 // One rule more.
 pub(crate) fn add_rule(rules: &mut RuleTable, row: &RuleRow)
-    requires { (length rules.old ≡ rule_table_size) × (rule_count rules.old < rule_limit) }
+    requires { rule_count rules.old < rule_limit }
     ensures { RuleAdded row.now rules.old rules.new }
 {
     let n = rule_count(rules) + 1;

@@ -20,7 +20,7 @@ use layout::{CARD_TABLE_SIZE, CardTable, RULE_TABLE_SIZE, RuleTable};
 const TEXT_LIMIT: usize = limits::TEXT_LIMIT as usize;
 
 // Cards with their groups, and rules, by value. Their layout is that of `layout`, their meaning that of specs/View.antt.
-#[derive(Clone, Copy)]
+#[derive(Clone, Copy, Debug, PartialEq, Eq)]
 pub struct Tables {
     pub cards: CardTable,
     pub rules: RuleTable,
@@ -28,12 +28,12 @@ pub struct Tables {
 
 impl Tables {
     ghost use Rattle.model.specs.Book.{no_book};
-    ghost use Rattle.rulebook.specs.View.{book_of};
+    ghost use Rattle.rulebook.specs.View.{tables_book};
 
     // The tables of the empty text, and of a refused one: a book without cards.
     pub fn empty() -> Tables
         ensures tables { result ≡ no_tables }
-        ensures book { book_of result.cards result.rules ≡ no_book }
+        ensures book { tables_book result ≡ no_book }
     {
         Tables {
             cards: [0; CARD_TABLE_SIZE],
@@ -50,6 +50,6 @@ pub fn read(text: &[u8]) -> Result<Tables, Refusal>
         return Err(Refusal::from(Reason::TextTooLong));
     }
     let mut tables = Tables::empty();
-    text::take_lines(text, &mut tables.cards, &mut tables.rules)?;
+    text::take_lines(text, &mut tables)?;
     Ok(tables)
 }

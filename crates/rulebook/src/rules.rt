@@ -24,7 +24,7 @@ fn marked_group(mark: u8, g: u8) -> u8
 
 // The owner, the kind, the head and the two counts.
 fn put_head(row: &mut RuleRow, line: &[u8], prices: usize, conditions: usize)
-    requires { (prices ≤ price_limit) × (conditions ≤ condition_limit) × (length row.old ≡ rule_row_size) }
+    requires { (prices ≤ price_limit) × (conditions ≤ condition_limit) }
     ensures { row.new ≡ head_cells line.now prices conditions row.old }
 {
     let p = 2 + letters::number_width(line, 2);
@@ -40,7 +40,7 @@ fn put_head(row: &mut RuleRow, line: &[u8], prices: usize, conditions: usize)
 
 // n prices from a place of the line on.
 fn put_prices(row: &mut RuleRow, line: &[u8], at: usize, n: usize)
-    requires { (at + price_limit * price_width ≤ longest) × (n ≤ price_limit) × (length row.old ≡ rule_row_size) }
+    requires { (at + price_limit * price_width ≤ longest) × (n ≤ price_limit) }
     ensures { row.new ≡ price_cells line.now at n row.old }
 {
     for i in 0..n {
@@ -57,7 +57,7 @@ fn put_prices(row: &mut RuleRow, line: &[u8], at: usize, n: usize)
 
 // n conditions from a place of the line on.
 fn put_conditions(row: &mut RuleRow, line: &[u8], at: usize, n: usize)
-    requires { (at + condition_limit * condition_width ≤ longest) × (n ≤ condition_limit) × (length row.old ≡ rule_row_size) }
+    requires { (at + condition_limit * condition_width ≤ longest) × (n ≤ condition_limit) }
     ensures { row.new ≡ condition_cells line.now at n row.old }
 {
     for i in 0..n {
@@ -87,7 +87,6 @@ fn row_of(line: &[u8], form: RuleForm) -> RuleRow
 
 // Questions 2, 6 and 7, over so many declared cards.
 pub(crate) fn take(line: &[u8], declared: u8, rules: &mut RuleTable) -> Result<(), Reason>
-    requires { length rules.old ≡ rule_table_size }
     ensures { RuleTaken line.now declared rules.old result rules.new }
 {
     let form = forms::rule_form(line);

@@ -1,5 +1,5 @@
 -- What a line leaves in the tables that are lent to the functions that take it.
-use Rattle.std.specs.Prelude.{not, ◌≡◌, List, [], ◌∷◌, ℕ, ltb, length, get_or, replicate, Result, Ok, Err, OnOk, OnErr}
+use Rattle.std.specs.Prelude.{not, ◌≡◌, List, [], ◌∷◌, ℕ, ltb, length, get_or, Result, Ok, Err, OnOk, OnErr}
 use Rattle.model.specs.Limits.{card_limit, rule_limit}
 use Rattle.model.specs.Lists.{within, any, eq_list}
 use Rattle.model.specs.Questions.{Question, ◌unless◌, first_unmet}
@@ -8,8 +8,8 @@ use Rattle.model.specs.Opening.{card_digits, is_card_number, open_line}
 use Rattle.answers.specs.View.{answer_of, number_of}
 use Rattle.answers.specs.declared.Reason.{Reason}
 use Rattle.answers.specs.declared.Refusal.{Refusal}
-use Rattle.rulebook.specs.Layout.{card_table_size, rule_table_size}
-use Rattle.rulebook.specs.View.{card_count, rule_count, cards_of, book_of}
+use Rattle.rulebook.specs.declared.Tables.{Tables}
+use Rattle.rulebook.specs.View.{card_count, rule_count, cards_of, tables_book}
 use Rattle.rulebook.specs.inner.Rows.{row_of}
 use Rattle.rulebook.specs.inner.Writes.{CardAdded, MemberAdded, RuleAdded}
 
@@ -52,22 +52,11 @@ pub record RuleTaken (w : List ℕ) (cards : ℕ) (rules : List ℕ) (result : R
 
 -- ---- any line
 
--- a lent table has its type's length
-pub record Sized (cards rules : List ℕ) : Type 0 where
-  pub cards-size : length cards ≡ card_table_size
-  pub rules-size : length rules ≡ rule_table_size
-
--- the tables of the empty text
-pub record Empty (cards rules : List ℕ) : Type 0 where
-  pub no_cards : cards ≡ replicate card_table_size 0
-  pub no_rules : rules ≡ replicate rule_table_size 0
-
 -- a refusal with its line's number
 abbrev pub at_line : ℕ → Result (Unit {0}) Reason → Result (Unit {0}) Refusal
 at_line i (Ok taken) = Ok taken
 at_line i (Err reason) = Err (record { reason = reason; place = i })
 
 -- the line's answer over the book of the tables
-pub record LineTaken (w cards rules : List ℕ) (result : Result (Unit {0}) Reason) (cards' rules' : List ℕ) : Type 0 where
-  pub answer : (i : ℕ) → answer_of (book_of cards' rules') (at_line i result) ≡ open_line i (book_of cards rules) w
-  pub sized : Sized cards' rules'
+pub record LineTaken (w : List ℕ) (tables : Tables) (result : Result (Unit {0}) Reason) (tables' : Tables) : Type 0 where
+  pub answer : (i : ℕ) → answer_of (tables_book tables') (at_line i result) ≡ open_line i (tables_book tables) w

@@ -12,7 +12,6 @@ use Rattle.forms.specs.Numbers.{in_row, digits_in, is_number_in}
 use Rattle.forms.proofs.Digits.{no_card-line, is-card-line, in_row_lem, number_is}
 use Rattle.rulebook.specs.View.{card_count}
 use Rattle.rulebook.proofs.Forms.{number_size, card_no_form, cards_full, card_wrong, card-repeated, card-taken}
-use borrow.Author.Rules.{rules}
 use Rattle.rulebook.proofs.cards.take.Goals as goal
 use Rattle.rulebook.proofs.cards.take.Goals.{After-is_card_number, Else-card_count-ge-CARD_LIMIT, Else-not-is_card_number, Else-number-eq0}
 
@@ -68,7 +67,7 @@ returns-then-is_known c =
     card-repeated (formed (goal.at.returns-then-is_known c).Else-number-eq0) (room (goal.at.returns-then-is_known c).Else-card_count-ge-CARD_LIMIT) (numbered (goal.at.returns-then-is_known c).Else-not-is_card_number) (rw (digits (goal.at.returns-then-is_known c).Else-not-is_card_number) at (sym c.is_known.ensures ∙ c.if-is_known.true))
 
 pub add_card-requires : goal.add_card-requires
-add_card-requires c = (search rules, room (goal.at.add_card-requires c).Else-card_count-ge-CARD_LIMIT, count (goal.at.add_card-requires c).Else-not-is_card_number)
+add_card-requires c = (room (goal.at.add_card-requires c).Else-card_count-ge-CARD_LIMIT, count (goal.at.add_card-requires c).Else-not-is_card_number)
 
 pub returns : goal.returns
 returns c =

@@ -8,7 +8,6 @@ use Rattle.model.specs.Reader.{group_of, number_at, is_group_line}
 use Rattle.rulebook.specs.View.{card_count}
 use Rattle.rulebook.proofs.Books.{count_small}
 use Rattle.rulebook.proofs.Forms.{grouped, group_no_form, group-not_above, group-taken}
-use borrow.Author.Rules.{rules}
 use Rattle.rulebook.proofs.groups.take.Goals as goal
 use Rattle.rulebook.proofs.groups.take.Goals.{After-group, Else-card_count-m, Else-not-is_group_line}
 
@@ -36,7 +35,7 @@ add_member-requires c =
     let l = c.number_at-m.ensures in
     let m = above (goal.at.add_member-requires c).Else-card_count-m in
     let n = count_small c.args.cards.now in
-    (search rules, (omega arith, omega arith), (omega arith, omega arith))
+    ((omega arith, omega arith), (omega arith, omega arith))
 
 pub returns : goal.returns
 returns c = group-taken (formed (goal.at.returns c).Else-not-is_group_line) (above (goal.at.returns c).Else-card_count-m) (rw (group_is (goal.at.returns c).After-group, c.number_at-m.ensures) at c.add_member.ensures)

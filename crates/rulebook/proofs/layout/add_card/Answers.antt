@@ -17,5 +17,5 @@ returns c =
     let a = c.args in
     let count = c.card_count-m.ensures in
     let l : length a.number.digits ≡ most_digits = search rules in
-    card-added a.cards.now a.number.digits _ _ a.number.count (omega (arith, count)) (omega (arith, count, c.requires)) c.requires.0 l c.requires.2
+    card-added a.cards.now a.number.digits _ _ a.number.count (omega (arith, count)) (omega (arith, count, c.requires)) (search rules) l c.requires.1
     c.write.ensures

@@ -10,5 +10,5 @@ write-requires c = omega (arith, c.rule_count-n.ensures, c.requires)
 pub returns : goal.returns
 returns c =
     let count = c.rule_count-n.ensures in
-    rule-added c.args.rules.now c.args.row.now _ _ (omega (arith, count)) (omega (arith, count, c.requires)) c.requires.0 (search rules)
+    rule-added c.args.rules.now c.args.row.now _ _ (omega (arith, count)) (omega (arith, count, c.requires)) (search rules) (search rules)
     c.write.ensures

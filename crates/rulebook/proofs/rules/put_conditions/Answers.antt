@@ -12,7 +12,7 @@ unfolding condition_cells
 loop-i-init c = (search rules, refl, search rules)
 
 pub put_condition-requires : goal.put_condition-requires
-put_condition-requires c = (c.loop-i.invariant.2, search rules)
+put_condition-requires c = search rules
 
 pub loop-i-preserved : goal.loop-i-preserved
 unfolding condition_cells

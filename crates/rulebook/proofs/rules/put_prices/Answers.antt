@@ -12,7 +12,7 @@ unfolding price_cells
 loop-i-init c = (search rules, refl, search rules)
 
 pub put_price-requires : goal.put_price-requires
-put_price-requires c = (c.loop-i.invariant.2, search rules)
+put_price-requires c = search rules
 
 pub loop-i-preserved : goal.loop-i-preserved
 unfolding price_cells

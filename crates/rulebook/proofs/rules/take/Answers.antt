@@ -7,7 +7,6 @@ use borrow.Author.Tests.{not-true, not-false}
 use Rattle.model.specs.Reader.{number_at, is_rule_line}
 use Rattle.rulebook.specs.View.{rule_count}
 use Rattle.rulebook.proofs.Forms.{rule_no_form, rule-not_above, rules_full, rule-taken}
-use borrow.Author.Rules.{rules}
 use Rattle.rulebook.proofs.rules.take.Goals as goal
 use Rattle.rulebook.proofs.rules.take.Goals.{Else-declared-owner, Else-not-form, Else-rule_count-ge-RULE_LIMIT}
 
@@ -33,7 +32,7 @@ pub returns-then-rule_count-ge-RULE_LIMIT : goal.returns-then-rule_count-ge-RULE
 returns-then-rule_count-ge-RULE_LIMIT c = rules_full (formed (goal.at.returns-then-rule_count-ge-RULE_LIMIT c).Else-not-form) (above (goal.at.returns-then-rule_count-ge-RULE_LIMIT c).Else-declared-owner) (omega (arith, c.if-rule_count-ge-RULE_LIMIT.true, c.rule_count.ensures))
 
 pub add_rule-requires : goal.add_rule-requires
-add_rule-requires c = (search rules, room (goal.at.add_rule-requires c).Else-rule_count-ge-RULE_LIMIT)
+add_rule-requires c = room (goal.at.add_rule-requires c).Else-rule_count-ge-RULE_LIMIT
 
 pub returns : goal.returns
 returns c = rule-taken (formed (goal.at.returns c).Else-not-form) (above (goal.at.returns c).Else-declared-owner) (room (goal.at.returns c).Else-rule_count-ge-RULE_LIMIT) (rw c.row_of-row.ensures at c.add_rule.ensures)
