@@ -3,9 +3,8 @@ use mathlib.Core.Path.{◌≡◌, refl, subst}
 use mathlib.Core.Bool.{Bool, true, false, cond}
 use mathlib.Core.List.{List, [], ◌∷◌}
 use Prim.Native.Char.{code}
-use Prim.Native.Nat.{ℕ, zero, suc, ◌+◌, ◌*◌, ◌≤◌, ◌<◌}
+use Prim.Native.Nat.{ℕ, suc, ◌+◌, ◌*◌, ◌≤◌, ◌<◌}
 use native.Mathlib.Omega.{arith}
-use native.Mathlib.Numerals.{add-one}
 use lib.Dec.{eqb, leb}
 use lib.ListN.{length, get_or, set}
 use borrow.Author.Tests.{eqb-true, eqb-false}
@@ -27,23 +26,15 @@ use Rattle.answers.specs.View.{answer_of, number_of}
 use Rattle.answers.specs.declared.Reason.{Reason}
 use Rattle.answers.specs.declared.Reason.TheVariants as reason
 use Rattle.answers.specs.declared.Refusal.{Refusal}
-use Rattle.rulebook.specs.inner.Writes.{Written, CardAdded, MemberAdded, RuleAdded}
+use Rattle.rulebook.specs.inner.Writes.{CardAdded, MemberAdded, RuleAdded}
 use Rattle.rulebook.specs.inner.Rows.{row_of}
 use Rattle.rulebook.specs.inner.Lines.{card_questions, group_questions, rule_questions, AddedUnless, at_line, LineTaken}
-use Rattle.rulebook.proofs.Written.{written_none, written_more, byte_written, card-added, member-added, rule-added}
+use Rattle.rulebook.proofs.Written.{row_written, byte_written, card-added, member-added, rule-added}
 use Rattle.rulebook.proofs.Rows.{row-length}
 use Rattle.rulebook.proofs.Grown.{no_tables_lem}
 use Rattle.rulebook.proofs.Forms.{how_many, refuses, takes}
 use Rattle.rulebook.proofs.Lines.{card-room, group-room, rule-room, card-line, group-line, rule-line, no_line}
 use Rattle.rulebook.proofs.Texts.{reads_refused, reads_done}
-
--- ---- a row written
-
-write : (at : ℕ) (row t : List ℕ) (n : ℕ) → at + n ≤ length t → (t' : List ℕ) × Written at row n t t'
-write at row t zero l = (t, written_none at row t)
-write at row t (suc n) l =
-    let before = write at row t n (omega arith) in
-    (set before.0 (at + n) (get_or row n 0), rw (add-one n) at (written_more before.1 (omega arith)))
 
 -- ---- a card, a member and a rule more
 
@@ -53,14 +44,14 @@ a_card ds cards size room few =
     let row = (in_row ds).digits in
     let row_is = up_to_length (λ d. get_or ds d 0) most_digits in
     let long = byte_written (m * card_row_size + length_place) (length ds) cards (omega arith) in
-    let t = write (m * card_row_size + digit_place 0) row (set cards (m * card_row_size + length_place) (length ds)) (length row) (omega (arith, long.size)) in
-    (set t.0 0 m, rw (in_row_lem ds few) at (card-added cards row t.0 m (length ds) refl (omega arith) size row_is few t.1))
+    let t = row_written (m * card_row_size + digit_place 0) (length row) row (set cards (m * card_row_size + length_place) (length ds)) refl (omega (arith, long.size)) in
+    (set _ 0 m, rw (in_row_lem ds few) at (card-added cards row _ m (length ds) refl (omega arith) size row_is few t))
 
 a_rule : (row rules : List ℕ) → length rules ≡ rule_table_size → rule_count rules < rule_limit → length row ≡ rule_row_size → (rules' : List ℕ) × RuleAdded row rules rules'
 a_rule row rules size room row_is =
     let n = suc (rule_count rules) in
-    let t = write (n * rule_row_size) row rules (length row) (omega arith) in
-    (set t.0 0 n, rule-added rules row t.0 n refl (omega arith) size row_is t.1)
+    let t = row_written (n * rule_row_size) (length row) row rules refl (omega arith) in
+    (set _ 0 n, rule-added rules row _ n refl (omega arith) size row_is t)
 
 -- ---- a line: what is asked decides, and what is met can be added
 

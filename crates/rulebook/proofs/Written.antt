@@ -1,36 +1,37 @@
 -- The law of writing a row, and what a card, a member and a rule more leave: by that law alone.
-use mathlib.Core.Path.{◌≡◌, refl, sym, ◌∙◌}
+use mathlib.Core.Path.{◌≡◌, sym, ◌∙◌}
 use mathlib.Core.List.{List, [], ◌∷◌}
-use mathlib.Core.Logic.{⊎_elim}
 use Prim.Native.Nat.{ℕ, suc, ◌+◌, ◌*◌, ◌≤◌, ◌<◌}
 use native.Mathlib.Omega.{arith}
-use native.Mathlib.Nat.{eq-or-lt_of_le, min-eq_left}
+use native.Mathlib.Nat.{min-eq_left}
 use lib.ListN.{length, get_or, set, take, length-set}
 use lib.Seq.{get_or-set_same, get_or-set_other, get_or-take, length-take-le}
+use borrow.Author.Rules.{rules}
+use borrow.Rule.Slice.PartMut.{put_mid}
+use Rattle.std.proofs.lemmas.List.{places}
 use Rattle.model.specs.Limits.{card_limit, rule_limit, group_count, most_digits}
 use Rattle.rulebook.specs.Layout.{card_row_size, card_table_size, length_place, digit_place, group_place, rule_row_size, rule_table_size}
 use Rattle.rulebook.specs.View.{card_count, rule_count}
-use Rattle.rulebook.specs.inner.Writes.{Written, CardAdded, MemberAdded, RuleAdded}
+use Rattle.rulebook.specs.inner.Writes.{CardAdded, MemberAdded, RuleAdded}
 
 -- ---- the law
 
-pub written_none : (at : ℕ) (row t : List ℕ) → Written at row 0 t t
-written_none at row t = record { size = refl; there = λ j l. absurd (omega arith); elsewhere = λ k not_there. refl }
+-- the row is at the place, and everything else is as it was
+pub record Written (at : ℕ) (row before after : List ℕ) : Type 0 where
+  pub size : length after ≡ length before
+  pub there : (j : ℕ) → j < length row → get_or after (at + j) 0 ≡ get_or row j 0
+  pub elsewhere : (k : ℕ) → (at ≤ k → k < at + length row → ⊥) → get_or after k 0 ≡ get_or before k 0
 
--- one byte more
-pub written_more : {at : ℕ} {row : List ℕ} {j : ℕ} {t t' : List ℕ} → Written at row j t t' → at + j < length t → Written at row (j + 1) t (set t' (at + j) (get_or row j 0))
-written_more {at} {row} {j} {t} {t'} w l = record {
-  size = length-set t' (at + j) (get_or row j 0) ∙ w.size;
-  there = λ k b.
-      ⊎_elim
-      (λ (e : k ≡ j). rw e (get_or-set_same t' (at + j) (get_or row j 0) 0 (omega (arith, w.size))))
-      (λ (m : k < j). get_or-set_other t' (at + j) (at + k) (get_or row j 0) 0 (λ e. omega arith) ∙ w.there k m)
-      (eq-or-lt_of_le {n = k} {m = j} (omega arith));
-  elsewhere = λ k not_there. get_or-set_other t' (at + j) k (get_or row j 0) 0 (λ e. not_there (omega arith) (omega arith)) ∙ w.elsewhere k (λ a b. not_there a (omega arith));
+-- over as many bytes
+pub row_written : (at k : ℕ) (row t : List ℕ) → k ≡ length row → at + length row ≤ length t → Written at row t (put_mid at k t row)
+row_written at k row t e l = record {
+  size = search (rules, places);
+  there = λ j b. search (rules, places);
+  elsewhere = λ i out. grind (arith, places);
 }
 
 -- one byte alone
-pub byte_written : (at x : ℕ) (t : List ℕ) → at < length t → Written at (x ∷ []) 1 t (set t at x)
+pub byte_written : (at x : ℕ) (t : List ℕ) → at < length t → Written at (x ∷ []) t (set t at x)
 byte_written at x t l = record {
   size = length-set t at x;
   there = λ k b. let e : at + k ≡ at = omega arith in let z : k ≡ 0 = omega arith in rw (e, z) (get_or-set_same t at x 0 l);
@@ -38,17 +39,17 @@ byte_written at x t l = record {
 }
 
 -- the byte itself
-pub byte_there : {at x : ℕ} {t t' : List ℕ} → Written at (x ∷ []) 1 t t' → get_or t' at 0 ≡ x
+pub byte_there : {at x : ℕ} {t t' : List ℕ} → Written at (x ∷ []) t t' → get_or t' at 0 ≡ x
 byte_there {at} {x} {t} {t'} w = let e : at + 0 ≡ at = omega arith in rw e at (w.there 0 (omega arith))
 
 -- ---- a card more: its length, its digits, and the count. m: its number
 
 module _ (cards row t : List ℕ) (m n : ℕ) (is : m ≡ suc (card_count cards)) (room : m ≤ card_limit) (size_is : length cards ≡ card_table_size) (row_is : length row ≡ most_digits)
-    (few : n ≤ most_digits) (b : Written (m * card_row_size + digit_place 0) row (length row) (set cards (m * card_row_size + length_place) n) t) where
-  long-put : Written (m * card_row_size + length_place) (n ∷ []) 1 cards (set cards (m * card_row_size + length_place) n)
+    (few : n ≤ most_digits) (b : Written (m * card_row_size + digit_place 0) row (set cards (m * card_row_size + length_place) n) t) where
+  long-put : Written (m * card_row_size + length_place) (n ∷ []) cards (set cards (m * card_row_size + length_place) n)
   long-put = byte_written (m * card_row_size + length_place) n cards (omega arith)
 
-  count-put : Written 0 (m ∷ []) 1 t (set t 0 m)
+  count-put : Written 0 (m ∷ []) t (set t 0 m)
   count-put = byte_written 0 m t (omega (arith, b.size, long-put.size))
 
   counted : card_count (set t 0 m) ≡ m
@@ -79,7 +80,7 @@ module _ (g m : ℕ) (cards : List ℕ) (g-low : 1 ≤ g) (g-high : g ≤ group_
   abbrev place : ℕ
   place = m * card_row_size + group_place g
 
-  flag-put : Written place (1 ∷ []) 1 cards (set cards place 1)
+  flag-put : Written place (1 ∷ []) cards (set cards place 1)
   flag-put = byte_written place 1 cards (omega arith)
 
   same_count : card_count (set cards place 1) ≡ card_count cards
@@ -97,8 +98,8 @@ module _ (g m : ℕ) (cards : List ℕ) (g-low : 1 ≤ g) (g-high : g ≤ group_
 -- ---- a rule more: its row, and the count. n: its number
 
 module _ (rules row t : List ℕ) (n : ℕ) (is : n ≡ suc (rule_count rules)) (room : n ≤ rule_limit) (size_is : length rules ≡ rule_table_size) (row_is : length row ≡ rule_row_size)
-    (a : Written (n * rule_row_size) row (length row) rules t) where
-  rule-put : Written 0 (n ∷ []) 1 t (set t 0 n)
+    (a : Written (n * rule_row_size) row rules t) where
+  rule-put : Written 0 (n ∷ []) t (set t 0 n)
   rule-put = byte_written 0 n t (omega (arith, a.size))
 
   ruled : rule_count (set t 0 n) ≡ n

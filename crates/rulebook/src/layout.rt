@@ -9,14 +9,16 @@ ghost use Rattle.rulebook.specs.Layout.{card_table_size, card_byte, rule_table_s
 ghost use Rattle.rulebook.specs.View.{card_count, card_length, digit_at, member_view, rule_count};
 ghost use Rattle.rulebook.specs.View.{row_owner, row_kind, row_head, row_price_count, row_condition_count};
 ghost use Rattle.rulebook.specs.View.{price_giver, price_kind, price_receiver, group_asked, first_name, second_name};
-ghost use Rattle.rulebook.specs.inner.Writes.{Written, CardAdded, MemberAdded, RuleAdded, with_head, with_price, with_condition};
+ghost use Rattle.rulebook.specs.inner.Writes.{CardAdded, MemberAdded, RuleAdded, with_head, with_price, with_condition};
 
 use forms::CardNumber;
 
 // Where row 0 of either table has its count.
 const COUNT: usize = 0;
 
-const CARD_ROW: usize = 1 + limits::MOST_DIGITS as usize + limits::GROUP_COUNT as usize;
+const MOST_DIGITS: usize = limits::MOST_DIGITS as usize;
+
+const CARD_ROW: usize = 1 + MOST_DIGITS + limits::GROUP_COUNT as usize;
 
 pub(crate) const RULE_ROW: usize = 32;
 
@@ -35,7 +37,7 @@ const LENGTH: usize = 0;
 
 const DIGITS: usize = 1;
 
-const BEFORE_GROUPS: usize = limits::MOST_DIGITS as usize;
+const BEFORE_GROUPS: usize = MOST_DIGITS;
 
 // A rule's row: owner, kind, head, two counts, four prices, four conditions of three bytes each, and three bytes to spare.
 const OWNER: usize = 0;
@@ -64,10 +66,11 @@ const SECOND_NAME: usize = 19;
 
 // ---- the card table read
 
+#[tactic(auto, unfolding(crate::specs::View::card_count))]
 pub fn card_count(cards: &CardTable) -> u8
     ensures { result ≡ card_count cards.now }
 {
-    limits::at_most(cards[COUNT], limits::CARD_LIMIT)
+    cards[COUNT].min(limits::CARD_LIMIT)
 }
 
 // A byte of row n.
@@ -82,11 +85,7 @@ fn card_byte(cards: &CardTable, n: u8, place: usize) -> u8
 pub(crate) fn card_length(cards: &CardTable, m: u8) -> u8
     ensures { result ≡ card_length cards.now m }
 {
-    let n = card_byte(cards, m, LENGTH);
-    if n < limits::LEAST_DIGITS {
-        return limits::LEAST_DIGITS;
-    }
-    limits::at_most(n, limits::MOST_DIGITS)
+    card_byte(cards, m, LENGTH).clamp(limits::LEAST_DIGITS, limits::MOST_DIGITS)
 }
 
 // Digit d of card m, from 0.
@@ -108,20 +107,19 @@ pub fn is_member(cards: &CardTable, group: u8, m: u8) -> bool
 
 // ---- the rule table read
 
+#[tactic(auto, unfolding(crate::specs::View::rule_count))]
 pub fn rule_count(rules: &RuleTable) -> u8
     ensures { result ≡ rule_count rules.now }
 {
-    limits::at_most(rules[COUNT], limits::RULE_LIMIT)
+    rules[COUNT].min(limits::RULE_LIMIT)
 }
 
 // The row of rule n; past the last, the last row.
 pub fn row_at<'a>(rules: &'a RuleTable, n: u8) -> &'a [u8]
     ensures { result.now ≡ row_at rules.now (min n rule_limit) }
 {
-    let all = &rules[..];
-    let from = limits::at_most(n, limits::RULE_LIMIT) as usize * RULE_ROW;
-    let to = from + RULE_ROW;
-    &all[from..to]
+    let at = n.min(limits::RULE_LIMIT) as usize * RULE_ROW;
+    &rules[at..at + RULE_ROW]
 }
 
 pub fn owner(row: &[u8]) -> u8
@@ -145,13 +143,13 @@ pub fn head(row: &[u8]) -> u8
 pub fn price_count(row: &[u8]) -> u8
     ensures { result ≡ row_price_count row.now }
 {
-    limits::at_most(ascii::byte(row, PRICE_COUNT), limits::PRICE_LIMIT)
+    ascii::byte(row, PRICE_COUNT).min(limits::PRICE_LIMIT)
 }
 
 pub fn condition_count(row: &[u8]) -> u8
     ensures { result ≡ row_condition_count row.now }
 {
-    limits::at_most(ascii::byte(row, CONDITION_COUNT), limits::CONDITION_LIMIT)
+    ascii::byte(row, CONDITION_COUNT).min(limits::CONDITION_LIMIT)
 }
 
 // Price i, from 0: the giver's variable, the kind, the receiver's name.
@@ -224,16 +222,6 @@ pub(crate) fn put_condition(row: &mut RuleRow, i: usize, group: u8, first: u8, s
 
 // ---- the tables written
 
-// The bytes of a row, into a table from a place on.
-fn write(table: &mut [u8], at: usize, row: &[u8])
-    requires { at + length row.now ≤ length table.old }
-    ensures { Written at row.now (length row.now) table.old table.new }
-{
-    for j in 0..row.len() {
-        table[at + j] = row[j];
-    }
-}
-
 // One card more. The bytes of its groups are as they were.
 pub(crate) fn add_card(cards: &mut CardTable, number: CardNumber)
     requires { (card_count cards.old < card_limit) × (number.count ≤ most_digits) }
@@ -241,9 +229,8 @@ pub(crate) fn add_card(cards: &mut CardTable, number: CardNumber)
 {
     let m = card_count(cards) + 1;
     let at = m as usize * CARD_ROW;
-    let digits = number.digits;
     cards[at + LENGTH] = number.count as u8;
-    write(cards, at + DIGITS, &digits);
+    cards[at + DIGITS..at + DIGITS + MOST_DIGITS].copy_from_slice(&number.digits);
     cards[COUNT] = m;
 }
 
@@ -262,6 +249,7 @@ pub(crate) fn add_rule(rules: &mut RuleTable, row: &RuleRow)
     ensures { RuleAdded row.now rules.old rules.new }
 {
     let n = rule_count(rules) + 1;
-    write(rules, n as usize * RULE_ROW, row);
+    let at = n as usize * RULE_ROW;
+    rules[at..at + RULE_ROW].copy_from_slice(row);
     rules[COUNT] = n;
 }

@@ -1,16 +1,10 @@
 -- What a write leaves in a table.
-use Rattle.std.specs.Prelude.{◌≡◌, List, ℕ, suc, ◌+◌, ◌≤◌, ◌<◌, length, get_or, set}
+use Rattle.std.specs.Prelude.{◌≡◌, List, ℕ, suc, ◌≤◌, ◌<◌, length, get_or, set}
 use Rattle.model.specs.Limits.{most_digits}
 use Rattle.rulebook.specs.Layout.{card_row_size, card_byte, length_place, digit_place, group_place, rule_row_size, rule_byte}
 use Rattle.rulebook.specs.Layout.{owner_place, kind_place, head_place, price_count_place, condition_count_place}
 use Rattle.rulebook.specs.Layout.{price_giver_place, price_kind_place, price_receiver_place, group_asked_place, first_name_place, second_name_place}
 use Rattle.rulebook.specs.View.{card_count, digit_at, rule_count}
-
--- The law of writing: the first n bytes of the row are at the place, and everything else is as it was.
-pub record Written (at : ℕ) (row : List ℕ) (n : ℕ) (before after : List ℕ) : Type 0 where
-  pub size : length after ≡ length before
-  pub there : (j : ℕ) → j < n → get_or after (at + j) 0 ≡ get_or row j 0
-  pub elsewhere : (k : ℕ) → (at ≤ k → k < at + n → ⊥) → get_or after k 0 ≡ get_or before k 0
 
 -- the digits ds are one card more
 pub record CardAdded (ds cards cards' : List ℕ) : Type 0 where

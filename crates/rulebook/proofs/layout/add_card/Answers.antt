@@ -1,16 +1,11 @@
 -- The length is written, then the digits, then the count.
 use mathlib.Core.Path.{◌≡◌}
 use native.Mathlib.Omega.{arith}
-use lib.ListN.{length, length-set}
+use lib.ListN.{length}
 use Rattle.model.specs.Limits.{most_digits}
-use Rattle.rulebook.proofs.Written.{card-added}
+use Rattle.rulebook.proofs.Written.{row_written, card-added}
 use borrow.Author.Rules.{rules}
 use Rattle.rulebook.proofs.layout.add_card.Goals as goal
-
-pub write-requires : goal.write-requires
-write-requires c =
-    let l : length c.args.number.digits ≡ most_digits = search rules in
-    simp length-set (omega (arith, c.card_count-m.ensures, c.requires))
 
 pub returns : goal.returns
 returns c =
@@ -18,4 +13,4 @@ returns c =
     let count = c.card_count-m.ensures in
     let l : length a.number.digits ≡ most_digits = search rules in
     card-added a.cards.now a.number.digits _ _ a.number.count (omega (arith, count)) (omega (arith, count, c.requires)) (search rules) l c.requires.1
-    c.write.ensures
+    (rw c.copy_from_slice.ensures.after (row_written _ _ _ _ (omega arith) (search rules)))
