@@ -7,121 +7,74 @@
 
 mod calls;
 
-ghost use Rattle.std.specs.Prelude.{◌≡◌, ◌≤◌, length};
 ghost use Rattle.commands.specs.View.{LiesIn};
 
-use calls::Repeated;
+use answers::Reply;
+use calls::{after, repeat};
 use commands::{Command, Words};
 use engine::Engine;
-use std::io::Read;
+use std::io;
 
 const REPEATS: u32 = 100_000;
 
-// Room for a rule text and the lines.
-fn input_buffer() -> [u8; 32768]
-    ensures { 32768 ≡ length result }
-{
-    [0; 32768]
+fn perform(engine: &mut Engine, line: &[u8], times: u32) -> u32 {
+    match commands::read(line) {
+        Command::Issue(card, kind, count) => repeat(engine, times, |next| {
+            after(next, engine::issue(*next, card, kind, count))
+        }),
+        Command::Redeem(card, kind, count) => repeat(engine, times, |next| {
+            after(next, engine::redeem(*next, card, kind, count))
+        }),
+        Command::Query(card, kind) => ask(engine, card, kind, times),
+        Command::Settle(words) => settle(engine, line, words, times),
+        Command::Bad => 0,
+    }
 }
 
-// Standard input, as far as there is room: how many bytes.
-fn read_input(from: &mut impl Read, input: &mut [u8]) -> usize
-    ensures { (result ≤ length input.new) × (length input.new ≡ length input.old) }
-{
-    let mut size = 0;
-    while size < input.len() {
-        let Ok(count) = from.read(&mut input[size..]) else {
-            return size;
+// What a query tells is the kind that is asked next, so that the compiler cannot leave a query out.
+fn ask(engine: &mut Engine, card: u32, first: u32, times: u32) -> u32 {
+    let mut kind = first;
+    repeat(engine, times, |next| {
+        let reply = after(next, engine::holding(*next, card, kind));
+        kind = match reply {
+            Reply::Holding(held) => held,
+            _ => 0,
         };
-        if count == 0 {
-            return size;
-        }
-        size += count;
-    }
-    size
-}
-
-// Where the first empty line is from a line on, or the end.
-fn empty_line(input: &[u8], from: usize) -> usize
-    requires { from ≤ length input.now }
-    ensures { (from ≤ result) × (result ≤ length input.now) }
-{
-    let mut at = from;
-    while at < input.len() {
-        let end = ascii::find(input, at, b'\n');
-        if end == at {
-            return at;
-        }
-        at = end + 1;
-    }
-    input.len()
-}
-
-// The place after an empty line, or the end.
-fn after(at: usize, size: usize) -> usize
-    requires { at ≤ size }
-    ensures { (at ≤ result) × (result ≤ size) }
-{
-    if at < size { at + 1 } else { size }
+        reply
+    })
 }
 
 // A settlement of a line's two words, each as far as there is room for its bytes.
-fn settle(engine: Engine, line: &[u8], words: Words, times: u32) -> Repeated
+fn settle(engine: &mut Engine, line: &[u8], words: Words, times: u32) -> u32
     requires { LiesIn line.now words.exchange × LiesIn line.now words.proof }
 {
-    let first = words.exchange;
-    let from = first.from;
-    let to = first.to;
-    let second = words.proof;
-    let next = second.from;
-    let end = second.to;
     let mut exchange = [0; 4096];
-    let n = commands::unhex(&line[from..to], &mut exchange);
+    let n = commands::unhex(&line[words.exchange.from..words.exchange.to], &mut exchange);
     let mut proof = [0; 4096];
-    let m = commands::unhex(&line[next..end], &mut proof);
-    calls::settle(engine, &exchange[..n], &proof[..m], times)
-}
-
-fn perform(engine: Engine, line: &[u8], times: u32) -> Repeated {
-    let command = commands::read(line);
-    match command {
-        Command::Issue(m, k, n) => calls::issue(engine, m, k, n, times),
-        Command::Redeem(m, k, n) => calls::redeem(engine, m, k, n, times),
-        Command::Query(m, k) => calls::holding(engine, m, k, times),
-        Command::Settle(words) => settle(engine, line, words, times),
-        Command::Bad => Repeated { engine, count: 0 },
-    }
+    let m = commands::unhex(&line[words.proof.from..words.proof.to], &mut proof);
+    let exchange = &exchange[..n];
+    let proof = &proof[..m];
+    repeat(engine, times, |next| {
+        after(next, engine::settle(*next, exchange, proof))
+    })
 }
 
 // Each line so many times.
-fn perform_lines(rt: &impl Print, engine: Engine, lines: &[u8], times: u32) -> Engine {
-    let mut next = engine;
-    let mut at = 0;
-    let mut end = ascii::find(lines, 0, b'\n');
-    while end < lines.len() {
-        let repeated = perform(next, &lines[at..end], times);
-        let _ = rt.println(repeated.count);
-        next = repeated.engine;
-        at = end + 1;
-        end = ascii::find(lines, at, b'\n');
+fn perform_lines(rt: &impl Print, engine: &mut Engine, lines: &str, times: u32) -> io::Result<()> {
+    for line in lines.lines() {
+        let accepted = perform(engine, line.as_bytes(), times);
+        println!(rt; "{accepted}")?;
     }
-    next
+    Ok(())
 }
 
-// The input's three parts, in order.
-fn perform_input(rt: &impl Print, input: &[u8]) {
-    let size = input.len();
-    let text = empty_line(input, 0);
-    let once = after(text, size);
-    let last = empty_line(input, once);
-    let often = after(last, size);
-    let opened = engine::open(&input[..text]);
-    let begun = perform_lines(rt, opened.engine, &input[once..last], 1);
-    perform_lines(rt, begun, &input[often..], REPEATS);
-}
-
-fn main(rt: HostRuntime) {
-    let mut input = input_buffer();
-    let size = read_input(&mut rt.reader(), &mut input);
-    perform_input(&rt, &input[..size]);
+fn main(rt: HostRuntime) -> io::Result<()> {
+    let input = io::read_to_string(rt.alloc(), rt.reader())?;
+    let (text, calls) = input.as_str().split_once("\n\n").unwrap_or(("", ""));
+    let (once, often) = calls.split_once("\n\n").unwrap_or((calls, ""));
+    // the cut takes the text's last LF away
+    let text = format!(in rt.alloc(); "{text}\n")?;
+    let mut engine = engine::open(text.as_bytes()).engine;
+    perform_lines(&rt, &mut engine, once, 1)?;
+    perform_lines(&rt, &mut engine, often, REPEATS)
 }

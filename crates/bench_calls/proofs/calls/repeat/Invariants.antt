@@ -1,6 +1,6 @@
 -- No more calls are counted than were made.
 use Rattle.std.proofs.Common.{◌≤◌}
-use Rattle.bench_calls.proofs.calls.settle.Given as goal
+use Rattle.bench_calls.proofs.calls.repeat.Given as goal
 
 abbrev pub invariant-loop-i : goal.invariant-loop-i
-invariant-loop-i l = l.count ≤ l.i
+invariant-loop-i g l = goal.F-IsAlwaysCallable g l.call × (l.count ≤ l.i)
