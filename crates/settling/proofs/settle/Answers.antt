@@ -1,25 +1,21 @@
--- The judge's reply, by cases: a refusal is the reply, with the holdings as they were, and what passes is finished.
+-- What is judged and refused leaves the holdings; what passes is finished.
+use Rattle.std.proofs.lemmas.Result.{err_from_is_err_and}
 use Rattle.settling.proofs.JudgedLaws.{judge_stops, judge_passes, finish_refuses, finish_moves}
 use Rattle.settling.proofs.settle.Goals as goal
 
-pub returns-in_default : goal.returns-in_default
-returns-in_default c =
-    let judged = c.judge-judged in
-    judge_stops _ _ _ _ _ judged.result c.in_default.not-Done judged.ensures
+pub returns-in_err-judge : goal.returns-in_err-judge
+returns-in_err-judge c =
+    let p = err_from_is_err_and c.from_residual.result c.from_residual.ensures.1 in
+    rw (p.1, p.2) (judge_stops _ _ _ _ _ c.in_err-judge.ensures)
 
-pub finish-refusal-requires : goal.finish-refusal-requires
-finish-refusal-requires c =
-    let judged = c.judge-judged in
-    rw c.card_count.ensures (judge_passes _ _ _ _ (rw c.in-Done.is at judged.ensures))
+pub finish-requires : goal.finish-requires
+finish-requires c = rw c.card_count.ensures (judge_passes _ _ _ _ c.in_ok-judge.ensures)
 
-pub returns-then-refusal-ne0 : goal.returns-then-refusal-ne0
-returns-then-refusal-ne0 c =
-    let judged = c.judge-judged in
-    let told = c.in-Done.is in
-    finish_refuses _ _ _ _ _ _ _ (rw told at judged.ensures) (rw c.card_count.ensures at c.finish-refusal.ensures) c.if-refusal-ne0.true
+pub returns-in_err-finish : goal.returns-in_err-finish
+returns-in_err-finish c =
+    let left = c.from_residual-in_err-finish in
+    let p = err_from_is_err_and left.result left.ensures.1 in
+    rw (p.1, p.2) (finish_refuses _ _ _ _ _ _ c.in_ok-judge.ensures _ (rw (c.in_err-finish.was, c.card_count.ensures) at c.finish.ensures))
 
 pub returns : goal.returns
-returns c =
-    let judged = c.judge-judged in
-    let told = c.in-Done.is in
-    finish_moves _ _ _ _ _ _ _ (rw told at judged.ensures) (rw c.card_count.ensures at c.finish-refusal.ensures) c.if-refusal-ne0.false
+returns c = finish_moves _ _ _ _ _ _ c.in_ok-judge.ensures (rw (c.in_ok-finish.was, c.card_count.ensures) at c.finish.ensures)
