@@ -5,10 +5,11 @@ use mathlib.Core.List.{List, [], ◌∷◌}
 use Prim.Native.Char.{code}
 use Prim.Native.Nat.{ℕ, suc, ◌+◌, ◌-◌, ◌≤◌, ◌<◌}
 use native.Mathlib.Omega.{arith}
+use native.Mathlib.Numerals.{add-one}
 use lib.Dec.{eqb}
-use lib.ListN.{length, take, drop, length-drop}
-use lib.Seq.{drop-length, drop-drop}
+use lib.ListN.{length, take, drop}
 use borrow.Author.Tests.{le-leb, lt-leb, ne_eqb}
+use Rattle.std.proofs.lemmas.List.{take_rest}
 use Rattle.model.specs.Lists.{until}
 use Rattle.model.specs.Questions.{Answer, ok, refused, and_then}
 use Rattle.model.specs.Reader.{CutText, cut}
@@ -48,54 +49,52 @@ cut-rest (x ∷ xs) l = go (eqb x (code "\n")) refl (cut-rest xs)
     go true e h = absurd (let k = rw e at l in omega arith)
     go false e h = let m : until (code "\n") xs ≡ length xs = (let k = rw e at l in omega arith) in rw (e, h m)
 
--- ---- the lines from the place at on, the first of them line i, over the book b
+-- ---- the lines that are left, the first of them line i, over the book b
 
-unfoldable pub open_from : List ℕ → ℕ → ℕ → Book → Answer Book
-open_from text at i b = open_lines i b (cut (drop at text)).lines (cut (drop at text)).last
+unfoldable pub open_rest : List ℕ → ℕ → Book → Answer Book
+open_rest rest i b = open_lines i b (cut rest).lines (cut rest).last
 
 pub too_long : (text : List ℕ) → 16_384 < length text → opening text ≡ refused 1 0
 unfolding opening
 too_long text l = rw (lt-leb (length text) 16_384 l)
 
-pub starts : (text : List ℕ) → length text ≤ 16_384 → (t : Tables) → t ≡ no_tables → open_from text 0 1 (tables_book t) ≡ opening text
-unfolding open_from opening
+pub starts : (text : List ℕ) → length text ≤ 16_384 → (t : Tables) → t ≡ no_tables → open_rest text 1 (tables_book t) ≡ opening text
+unfolding open_rest opening
 starts text l t e = rw (ap tables_book e ∙ no_tables_lem, le-leb (length text) 16_384 l)
 
-pub all_read : (text : List ℕ) (at i : ℕ) (b : Book) → open_from text at i b ≡ opening text → at ≡ length text → opening text ≡ ok b
-unfolding open_from open_lines cut
-all_read text at i b h e = sym h ∙ rw (e, drop-length text)
+pub all_read : (text rest : List ℕ) (i : ℕ) (b : Book) → open_rest rest i b ≡ opening text → length rest ≡ 0 → opening text ≡ ok b
+unfolding open_rest open_lines cut
+all_read text [] i b h e = sym h
+all_read text (x ∷ xs) i b h e = absurd (omega arith)
 
--- a turn at the place at, over the two tables, where the line ends at the place end
-pub record Turn (text : List ℕ) (at i end : ℕ) (t : Tables) : Type 0 where
-  pub so_far : open_from text at i (tables_book t) ≡ opening text
-  pub within : at < length text
-  pub ends : end ≡ at + until (code "\n") (drop at text)
+-- a turn over the tables t, where the first line ends at the place end
+pub record Turn (text rest : List ℕ) (i end : ℕ) (t : Tables) : Type 0 where
+  pub so_far : open_rest rest i (tables_book t) ≡ opening text
+  pub ends : end ≡ until (code "\n") rest
 
-module _ {text : List ℕ} {at i end : ℕ} {t : Tables} (turn : Turn text at i end t) where
-  pub no-LF : end ≡ length text → opening text ≡ refused 2 i
-  unfolding open_from open_lines
-  no-LF p =
-      let n = length-drop at text in
+module _ {text rest : List ℕ} {i end : ℕ} {t : Tables} (turn : Turn text rest i end t) where
+  pub no-LF : 0 < length rest → end ≡ length rest → opening text ≡ refused 2 i
+  unfolding open_rest open_lines
+  no-LF l p =
       let e = turn.ends in
-      let l = turn.within in
-      sym turn.so_far ∙ rw (cut-rest (drop at text) (omega arith), ne_eqb (length (drop at text)) 0 (λ z. omega arith))
+      sym turn.so_far ∙ rw (cut-rest rest (omega arith), ne_eqb (length rest) 0 (λ z. omega arith))
 
-  module _ (p : end < length text) where
+  module _ (p : end < length rest) where
     abbrev line : List ℕ
-    line = take (end - at) (drop at text)
+    line = take end rest
 
-    line_first : opening text ≡ and_then (open_line i (tables_book t) line) (λ b. open_from text (end + 1) (i + 1) b)
-    unfolding open_from open_lines
+    abbrev after : List ℕ
+    after = take (length rest - (end + 1)) (drop (end + 1) rest)
+
+    line_first : opening text ≡ and_then (open_line i (tables_book t) line) (λ b. open_rest after (i + 1) b)
+    unfolding open_rest open_lines
     line_first =
-        let n = length-drop at text in
         let e = turn.ends in
-        let k : until (code "\n") (drop at text) ≡ end - at = omega arith in
-        let s : at + suc (end - at) ≡ end + 1 = omega arith in
-        sym turn.so_far ∙ rw (cut_line (drop at text) (omega arith), k, drop-drop (suc (end - at)) at text, s)
+        sym turn.so_far ∙ rw (take_rest rest (end + 1), add-one end, cut_line rest (omega arith), sym e)
 
     -- m: the line's result with its number
     pub line_says : {r : Result (Unit {0}) Reason} {t' : Tables} → LineTaken line t r t' → (m : Result (Unit {0}) Refusal) → m ≡ at_line i r
-        → opening text ≡ and_then (answer_of (tables_book t') m) (λ b. open_from text (end + 1) (i + 1) b)
+        → opening text ≡ and_then (answer_of (tables_book t') m) (λ b. open_rest after (i + 1) b)
     line_says taken m e = line_first ∙ rw (sym (taken.answer i), e)
 
 -- ---- what `read` returns

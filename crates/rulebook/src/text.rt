@@ -28,17 +28,16 @@ pub(crate) fn take_lines(text: &[u8], tables: &mut Tables) -> Result<(), Refusal
     requires { (length text.now ≤ text_limit) × (tables.old ≡ no_tables) }
     ensures { answer_of (tables_book tables.new) result ≡ opening text.now }
 {
-    let mut at = 0;
-    let mut line: u32 = 1;
-    while at < text.len() {
-        let end = ascii::find(text, at, b'\n');
-        if end == text.len() {
-            return Err(Reason::NoForm.at(line));
+    let mut rest = text;
+    let mut number = 0;
+    while !rest.is_empty() {
+        number += 1;
+        let end = ascii::find(rest, 0, b'\n');
+        if end == rest.len() {
+            return Err(Reason::NoForm.at(number));
         }
-        let w = &text[at..end];
-        take_line(w, tables).map_err(|reason| reason.at(line))?;
-        at = end + 1;
-        line += 1;
+        take_line(&rest[..end], tables).map_err(|reason| reason.at(number))?;
+        rest = &rest[end + 1..];
     }
     Ok(())
 }
