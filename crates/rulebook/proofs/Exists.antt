@@ -29,7 +29,7 @@ use Rattle.answers.specs.declared.Refusal.{Refusal}
 use Rattle.rulebook.specs.inner.Writes.{CardAdded, MemberAdded, RuleAdded}
 use Rattle.rulebook.specs.inner.Rows.{row_of}
 use Rattle.rulebook.specs.inner.Lines.{card_questions, group_questions, rule_questions, AddedUnless, at_line, LineTaken}
-use Rattle.rulebook.proofs.Written.{row_written, byte_written, card-added, member-added, rule-added}
+use Rattle.rulebook.proofs.Written.{row_written, byte_written, card-added, member_added, rule-added}
 use Rattle.rulebook.proofs.Rows.{row-length}
 use Rattle.rulebook.proofs.Grown.{no_tables_lem}
 use Rattle.rulebook.proofs.Forms.{how_many, refuses, takes}
@@ -110,7 +110,7 @@ module _ (w : List ℕ) (t : Tables) (sized : Sized t) where
       let asked = asks (group_questions (card_count t.cards) w) (MemberAdded (group_of (get_or w 2 0)) (number_at w 4) t.cards) t.cards
       ((reason.NoForm, refl), ((reason.CardNotAbove, refl), tt)) (λ z.
       let j = group-room t.cards w z in
-      (_, member-added (group_of (get_or w 2 0)) (number_at w 4) t.cards j.numbers.group-low j.numbers.group_high j.numbers.card-low j.card_high sized.cards-size)) in
+      (_, member_added (group_of (get_or w 2 0)) (number_at w 4) t.cards j.numbers.group-low j.numbers.group_high j.numbers.card-low j.card_high sized.cards-size)) in
       record {
         result = asked.0;
         next = record { cards = asked.1; rules = t.rules };

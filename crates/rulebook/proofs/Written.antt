@@ -87,8 +87,8 @@ module _ (g m : ℕ) (cards : List ℕ) (g-low : 1 ≤ g) (g-high : g ≤ group_
   unfolding card_count
   same_count = rw (flag-put.elsewhere 0 (λ p q. omega arith))
 
-  pub member-added : MemberAdded g m cards (set cards place 1)
-  member-added = record {
+  pub member_added : MemberAdded g m cards (set cards place 1)
+  member_added = record {
     size = flag-put.size;
     count = same_count;
     flag = byte_there flag-put;

@@ -2,7 +2,7 @@
 //
 // Each table is rows of bytes. Row 0 begins with the number of cards, or of rules; row n is card n's, or rule n's. What is read of a table
 // is told for every value of it, and for any number of a card, a rule or an entry.
-ghost use Rattle.std.specs.Prelude.{◌≡◌, ◌+◌, ◌≤◌, ◌<◌, min, length};
+ghost use Rattle.std.specs.Prelude.{◌^◌, ◌≡◌, ◌+◌, ◌≤◌, ◌<◌, min, length};
 ghost use Rattle.model.specs.Limits.{card_limit, rule_limit, group_count, price_limit, condition_limit, most_digits};
 ghost use Rattle.forms.specs.Numbers.{digits_in};
 ghost use Rattle.rulebook.specs.Layout.{card_table_size, card_byte, rule_table_size, rule_row_size, row_at};
@@ -75,7 +75,7 @@ pub fn card_count(cards: &CardTable) -> u8
 
 // A byte of row n.
 fn card_byte(cards: &CardTable, n: u8, place: usize) -> u8
-    requires { place ≤ 256 }
+    requires { place < 2 ^ 16 }
     ensures { result ≡ card_byte cards.now n place }
 {
     ascii::byte(cards, n as usize * CARD_ROW + place)
@@ -115,7 +115,8 @@ pub fn rule_count(rules: &RuleTable) -> u8
 }
 
 // The row of rule n; past the last, the last row.
-pub fn row_at<'a>(rules: &'a RuleTable, n: u8) -> &'a [u8]
+#[tactic(auto, using(crate::proofs::Parts::row_part))]
+pub fn row_at(rules: &RuleTable, n: u8) -> &[u8]
     ensures { result.now ≡ row_at rules.now (min n rule_limit) }
 {
     let at = n.min(limits::RULE_LIMIT) as usize * RULE_ROW;

@@ -31,6 +31,7 @@ impl Tables {
     ghost use Rattle.rulebook.specs.View.{tables_book};
 
     // The tables of the empty text, and of a refused one: a book without cards.
+    #[tactic(auto, using(crate::proofs::Grown::no_tables_lem))]
     pub fn empty() -> Tables
         ensures tables { result ≡ no_tables }
         ensures book { tables_book result ≡ no_book }

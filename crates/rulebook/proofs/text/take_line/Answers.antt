@@ -1,5 +1,6 @@
 -- By the first letter, one law for each form.
 use mathlib.Core.Path.{sym, ◌∙◌}
+use native.Mathlib.Omega.{arith}
 use Rattle.rulebook.proofs.Lines.{card-line, group-line, rule-line, no_line}
 use Rattle.rulebook.proofs.text.take_line.Goals as goal
 
@@ -14,6 +15,5 @@ returns-in-82 c = rule-line (sym c.byte-x.ensures ∙ c.in-82.is) (rw c.card_cou
 
 pub returns-in_default : goal.returns-in_default
 returns-in_default c =
-    let n = c.in_default.in_default-own.rest in
     let e = c.byte-x.ensures in
-    no_line (λ x. n.0.0.1 (e ∙ x)) (λ x. n.0.1 (e ∙ x)) (λ x. n.1 (e ∙ x))
+    no_line (λ x. omega arith) (λ x. omega arith) (λ x. omega arith)

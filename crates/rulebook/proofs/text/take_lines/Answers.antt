@@ -1,10 +1,13 @@
 -- What is left to read, over the book of the tables so far, is the whole text's opening.
-use mathlib.Core.Path.{sym, ◌∙◌}
+use mathlib.Core.Path.{ap, sym, ◌∙◌}
 use Prim.Native.Nat.{◌+◌, ◌<◌}
 use native.Mathlib.Omega.{arith}
 use native.Mathlib.Nat.{zero-add}
 use lib.ListN.{length, length-drop, length-take}
 use Rattle.std.proofs.lemmas.Result.{err_from_is_err_and}
+use Rattle.model.specs.Questions.{refused}
+use Rattle.answers.specs.View.{number_of}
+use Rattle.answers.specs.declared.Refusal.{Refusal}
 use Rattle.rulebook.proofs.Texts.{starts, all_read, Turn, no-LF, line_says}
 use borrow.Author.Rules.{rules}
 use Rattle.rulebook.proofs.text.take_lines.Goals as goal
@@ -29,7 +32,7 @@ overflow_add-number c = omega (arith, c.loop-rest.invariant.0, c.requires)
 pub returns-then-end-rest : goal.returns-then-end-rest
 returns-then-end-rest c =
     let at = (goal.at.returns-then-end-rest c).After-find-end in
-    rw c.at.ensures (sym (no-LF (turn at) (some_left at) c.if-end-rest.true))
+    ap (λ (r : Refusal). refused (number_of r.reason) r.place) c.at.ensures ∙ sym (no-LF (turn at) (some_left at) c.if-end-rest.true)
 
 pub returns-in_err-map_err : goal.returns-in_err-map_err
 returns-in_err-map_err c =
