@@ -2,10 +2,10 @@
 //
 // Each table is rows of bytes. Row 0 begins with the number of cards, or of rules; row n is card n's, or rule n's. What is read of a table
 // is told for every value of it, and for any number of a card, a rule or an entry.
-ghost use Rattle.std.specs.Prelude.{◌^◌, ◌≡◌, ◌+◌, ◌≤◌, ◌<◌, min, length};
+ghost use Rattle.std.specs.Prelude.{get_or, ◌*◌, ◌^◌, ◌≡◌, ◌+◌, ◌≤◌, ◌<◌, min, length};
 ghost use Rattle.model.specs.Limits.{card_limit, rule_limit, group_count, price_limit, condition_limit, most_digits};
 ghost use Rattle.forms.specs.Numbers.{digits_in};
-ghost use Rattle.rulebook.specs.Layout.{card_table_size, card_byte, rule_table_size, rule_row_size, row_at};
+ghost use Rattle.rulebook.specs.Layout.{card_table_size, card_byte, entry_size, rule_table_size, rule_row_size, row_at};
 ghost use Rattle.rulebook.specs.View.{card_count, card_length, digit_at, member_view, rule_count};
 ghost use Rattle.rulebook.specs.View.{row_owner, row_kind, row_head, row_price_count, row_condition_count};
 ghost use Rattle.rulebook.specs.View.{price_giver, price_kind, price_receiver, group_asked, first_name, second_name};
@@ -78,7 +78,7 @@ fn card_byte(cards: &CardTable, n: u8, place: usize) -> u8
     requires { place < 2 ^ 16 }
     ensures { result ≡ card_byte cards.now n place }
 {
-    ascii::byte(cards, n as usize * CARD_ROW + place)
+    ascii::byte(cards, usize::from(n) * CARD_ROW + place)
 }
 
 // How many digits card m has.
@@ -92,7 +92,7 @@ pub(crate) fn card_length(cards: &CardTable, m: u8) -> u8
 pub fn digit_at(cards: &CardTable, m: u8, d: u8) -> u8
     ensures { result ≡ digit_at cards.now m d }
 {
-    card_byte(cards, m, DIGITS + d as usize)
+    card_byte(cards, m, DIGITS + usize::from(d))
 }
 
 // Whether card m is in the group.
@@ -102,7 +102,7 @@ pub fn is_member(cards: &CardTable, group: u8, m: u8) -> bool
     if !(limits::is_within(group, limits::GROUP_COUNT) & limits::is_within(m, limits::CARD_LIMIT)) {
         return false;
     }
-    card_byte(cards, m, BEFORE_GROUPS + group as usize) != 0
+    card_byte(cards, m, BEFORE_GROUPS + usize::from(group)) != 0
 }
 
 // ---- the rule table read
@@ -119,7 +119,7 @@ pub fn rule_count(rules: &RuleTable) -> u8
 pub fn row_at(rules: &RuleTable, n: u8) -> &[u8]
     ensures { result.now ≡ row_at rules.now (min n rule_limit) }
 {
-    let at = n.min(limits::RULE_LIMIT) as usize * RULE_ROW;
+    let at = usize::from(n.min(limits::RULE_LIMIT)) * RULE_ROW;
     &rules[at..at + RULE_ROW]
 }
 
@@ -153,42 +153,50 @@ pub fn condition_count(row: &[u8]) -> u8
     ascii::byte(row, CONDITION_COUNT).min(limits::CONDITION_LIMIT)
 }
 
+// A byte of entry i, a price or a condition, from 0: entry 0's is at the place.
+fn entry_byte(row: &[u8], place: usize, i: u8) -> u8
+    requires { place < 2 ^ 16 }
+    ensures { result ≡ get_or row.now (place + i * entry_size) 0 }
+{
+    ascii::byte(row, place + usize::from(i) * ENTRY_SIZE)
+}
+
 // Price i, from 0: the giver's variable, the kind, the receiver's name.
 pub fn price_giver(row: &[u8], i: u8) -> u8
     ensures { (result ≡ price_giver row.now i) × (result < 8) }
 {
-    ascii::byte(row, PRICE_GIVER + i as usize * ENTRY_SIZE) % limits::VARIABLE_COUNT
+    entry_byte(row, PRICE_GIVER, i) % limits::VARIABLE_COUNT
 }
 
 pub fn price_kind(row: &[u8], i: u8) -> u8
     ensures { result ≡ price_kind row.now i }
 {
-    ascii::byte(row, PRICE_KIND + i as usize * ENTRY_SIZE)
+    entry_byte(row, PRICE_KIND, i)
 }
 
 pub fn price_receiver(row: &[u8], i: u8) -> u8
     ensures { result ≡ price_receiver row.now i }
 {
-    ascii::byte(row, PRICE_RECEIVER + i as usize * ENTRY_SIZE)
+    entry_byte(row, PRICE_RECEIVER, i)
 }
 
 // Condition i, from 0: the group, or 0 for two cards of one issuer, and two names.
 pub fn group_asked(row: &[u8], i: u8) -> u8
     ensures { result ≡ group_asked row.now i }
 {
-    ascii::byte(row, GROUP_ASKED + i as usize * ENTRY_SIZE)
+    entry_byte(row, GROUP_ASKED, i)
 }
 
 pub fn first_name(row: &[u8], i: u8) -> u8
     ensures { result ≡ first_name row.now i }
 {
-    ascii::byte(row, FIRST_NAME + i as usize * ENTRY_SIZE)
+    entry_byte(row, FIRST_NAME, i)
 }
 
 pub fn second_name(row: &[u8], i: u8) -> u8
     ensures { result ≡ second_name row.now i }
 {
-    ascii::byte(row, SECOND_NAME + i as usize * ENTRY_SIZE)
+    entry_byte(row, SECOND_NAME, i)
 }
 
 // ---- a rule's row written
@@ -229,7 +237,7 @@ pub(crate) fn add_card(cards: &mut CardTable, number: CardNumber)
     ensures { CardAdded (digits_in number) cards.old cards.new }
 {
     let m = card_count(cards) + 1;
-    let at = m as usize * CARD_ROW;
+    let at = usize::from(m) * CARD_ROW;
     cards[at + LENGTH] = number.count as u8;
     cards[at + DIGITS..at + DIGITS + MOST_DIGITS].copy_from_slice(&number.digits);
     cards[COUNT] = m;
@@ -240,7 +248,7 @@ pub(crate) fn add_member(cards: &mut CardTable, group: u8, m: u8)
     requires { ((1 ≤ group) × (group ≤ group_count)) × ((1 ≤ m) × (m ≤ card_limit)) }
     ensures { MemberAdded group m cards.old cards.new }
 {
-    let at = m as usize * CARD_ROW + (BEFORE_GROUPS + group as usize);
+    let at = usize::from(m) * CARD_ROW + (BEFORE_GROUPS + usize::from(group));
     cards[at] = 1;
 }
 
@@ -250,7 +258,7 @@ pub(crate) fn add_rule(rules: &mut RuleTable, row: &RuleRow)
     ensures { RuleAdded row.now rules.old rules.new }
 {
     let n = rule_count(rules) + 1;
-    let at = n as usize * RULE_ROW;
+    let at = usize::from(n) * RULE_ROW;
     rules[at..at + RULE_ROW].copy_from_slice(row);
     rules[COUNT] = n;
 }

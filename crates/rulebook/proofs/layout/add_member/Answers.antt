@@ -6,4 +6,5 @@ use Rattle.rulebook.proofs.layout.add_member.Goals as goal
 pub returns : goal.returns
 returns c =
     let p = c.requires in
-    member_added c.args.group c.args.m c.args.cards.now p.0.0 p.0.1 p.1.0 p.1.1 (search rules)
+    rw (c.from.ensures, c.from-2.ensures)
+    (member_added c.args.group c.args.m c.args.cards.now p.0.0 p.0.1 p.1.0 p.1.1 (search rules))

@@ -8,4 +8,4 @@ pub returns : goal.returns
 returns c =
     let count = c.rule_count-n.ensures in
     rule-added c.args.rules.now c.args.row.now _ _ (omega (arith, count)) (omega (arith, count, c.requires)) (search rules) (search rules)
-    (rw c.copy_from_slice.ensures.after (row_written _ _ _ _ (omega arith) (search rules)))
+    (rw (c.from-at.ensures, c.copy_from_slice.ensures.after) (row_written _ _ _ _ (omega arith) (search rules)))

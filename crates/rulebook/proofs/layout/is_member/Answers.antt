@@ -21,8 +21,8 @@ returns-then-not-is_within c =
 pub card_byte-requires : goal.card_byte-requires
 card_byte-requires c =
     let a = c.args in
-    omega (arith, within-true a.group group_count (both_true (within a.group group_count) (within a.m card_limit) (inside c)).0)
+    omega (arith, within-true a.group group_count (both_true (within a.group group_count) (within a.m card_limit) (inside (goal.at.card_byte-requires c).Else-not-is_within)).0)
 
 pub returns : goal.returns
 unfolding member_view
-returns c = rw (inside (goal.at.returns c).Else-not-is_within, c.card_byte.ensures)
+returns c = rw (inside (goal.at.returns c).Else-not-is_within, c.card_byte.ensures, c.from.ensures)
