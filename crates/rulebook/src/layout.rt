@@ -96,13 +96,13 @@ pub fn digit_at(cards: &CardTable, m: u8, d: u8) -> u8
 }
 
 // Whether card m is in the group.
+#[tactic(auto, unfolding(crate::specs::View::member_view))]
 pub fn is_member(cards: &CardTable, group: u8, m: u8) -> bool
     ensures { result ≡ member_view cards.now group m }
 {
-    if !(limits::is_within(group, limits::GROUP_COUNT) & limits::is_within(m, limits::CARD_LIMIT)) {
-        return false;
-    }
-    card_byte(cards, m, BEFORE_GROUPS + usize::from(group)) != 0
+    limits::is_within(group, limits::GROUP_COUNT)
+        && limits::is_within(m, limits::CARD_LIMIT)
+        && card_byte(cards, m, BEFORE_GROUPS + usize::from(group)) != 0
 }
 
 // ---- the rule table read
