@@ -1,14 +1,21 @@
 // Proofs of exchanges by rules that ask nothing.
+ghost use Rattle.std.specs.Prelude.{◌≡◌, ◌<◌, ◌≤◌, length};
 
-// A record for each of the first 32 transfers: by the rule of its giver's number, with its receiver for a.
-pub(crate) fn proof(exchange: &[u8]) -> [u8; 384] {
-    let n = limits::least(exchange.len() / 3, 32);
-    let mut p = [0; 384];
-    for i in 0..n {
-        p[i * 12] = ((i + 2) % (n + 1)) as u8;
-        p[i * 12 + 1] = (i + 1) as u8;
-        p[i * 12 + 2] = exchange[i * 3];
-        p[i * 12 + 4] = exchange[i * 3 + 2];
-    }
-    p
+use std::array;
+
+// A record for each transfer: by the rule of its giver's number, with its receiver for a.
+pub(crate) fn proof<const N: usize>(exchange: &[[u8; 3]; N]) -> [[u8; 12]; N]
+    requires { N ≤ 32 }
+    ensures { length result ≡ N }
+{
+    array::from_fn(
+        |i: usize| -> [u8; 12]
+            requires { (i < N) × (N ≤ 32) }
+        {
+            let [giver, kind, receiver] = exchange[i];
+            let number = i as u8 + 1;
+            let next = if i + 1 == N { 0 } else { number + 1 };
+            [next, number, giver, 0, receiver, 0, 0, 0, 0, 0, 0, 0]
+        },
+    )
 }

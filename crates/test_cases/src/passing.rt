@@ -1,111 +1,132 @@
 // Passing on what comes in: questions 22 and 23 of exchanges by rules that ask nothing.
-ghost use Rattle.std.specs.Prelude.{◌≤◌, length};
+ghost use Rattle.std.specs.Prelude.{◌≤◌};
 
 use crate::{free, tell};
 use engine::Engine;
+use std::io;
 
 // Cards 1 to 3 give A, and card 4 gives B.
 fn open() -> Engine {
-    let opened = engine::open(
+    engine::open(
         b"C 700056000016\nC 700012000019\nC 700012000027\nC 700012010018\n\
           R 1 A a\nR 2 A a\nR 3 A a\nR 4 B a\n",
-    );
-    opened.engine
+    )
+    .engine
 }
 
-fn settle(rt: &impl Print, label: &[u8], engine: Engine, exchange: &[u8]) -> Engine
-    requires { length exchange.now ≤ 96 }
+fn settle<const N: usize>(
+    rt: &impl Print,
+    label: &str,
+    engine: Engine,
+    exchange: &[[u8; 3]; N],
+) -> io::Result<Engine>
+    requires { N ≤ 32 }
 {
-    let p = free::proof(exchange);
-    let size = exchange.len() * 4;
-    tell::settle(rt, label, engine, exchange, &p[..size])
+    let proof = free::proof(exchange);
+    tell::settle(
+        rt,
+        label,
+        engine,
+        exchange.as_flattened(),
+        proof.as_flattened(),
+    )
 }
 
-pub(crate) fn orders(rt: &impl Print) {
-    let holding = tell::calls(rt, open(), b"an A for card 1:I 1 1 1;");
-    settle(rt, b"gift after its receipt", holding, &[1, 1, 2, 2, 1, 3]);
-    let e = settle(rt, b"gift before its receipt", holding, &[2, 1, 3, 1, 1, 2]);
+pub(crate) fn orders(rt: &impl Print) -> io::Result<()> {
+    let holding = tell::calls(rt, open(), &[("an A for card 1", "I 1 1 1")])?;
+    settle(
+        rt,
+        "gift after its receipt",
+        holding,
+        &[[1, 1, 2], [2, 1, 3]],
+    )?;
+    let e = settle(
+        rt,
+        "gift before its receipt",
+        holding,
+        &[[2, 1, 3], [1, 1, 2]],
+    )?;
     tell::calls(
         rt,
         e,
-        b"card 1's kind A:H 1 1;\
-          card 2's kind A:H 2 1;\
-          card 3's kind A:H 3 1;",
-    );
+        &[
+            ("card 1's kind A", "H 1 1"),
+            ("card 2's kind A", "H 2 1"),
+            ("card 3's kind A", "H 3 1"),
+        ],
+    )?;
+    Ok(())
 }
 
-pub(crate) fn amounts(rt: &impl Print) {
+pub(crate) fn amounts(rt: &impl Print) -> io::Result<()> {
     let holding = tell::calls(
         rt,
         open(),
-        b"an A for card 1:I 1 1 1;a B for card 4:I 4 2 1;",
-    );
+        &[
+            ("an A for card 1", "I 1 1 1"),
+            ("a B for card 4", "I 4 2 1"),
+        ],
+    )?;
+    let twice = [[1, 1, 2], [2, 1, 3], [2, 1, 3]];
+    settle(rt, "one receipt passed on twice", holding, &twice)?;
     settle(
         rt,
-        b"one receipt passed on twice",
+        "receipt of another kind",
         holding,
-        &[1, 1, 2, 2, 1, 3, 2, 1, 3],
-    );
-    settle(rt, b"receipt of another kind", holding, &[4, 2, 2, 2, 1, 3]);
-    settle(rt, b"receipt of another card", holding, &[1, 1, 3, 2, 1, 3]);
-    let more = tell::calls(rt, holding, b"an A for card 2:I 2 1 1;");
+        &[[4, 2, 2], [2, 1, 3]],
+    )?;
     settle(
         rt,
-        b"one receipt and one held, passed on",
-        more,
-        &[1, 1, 2, 2, 1, 3, 2, 1, 3],
-    );
+        "receipt of another card",
+        holding,
+        &[[1, 1, 3], [2, 1, 3]],
+    )?;
+    let more = tell::calls(rt, holding, &[("an A for card 2", "I 2 1 1")])?;
+    settle(rt, "one receipt and one held, passed on", more, &twice)?;
+    Ok(())
 }
 
-pub(crate) fn rings(rt: &impl Print) {
+pub(crate) fn rings(rt: &impl Print) -> io::Result<()> {
     let e = settle(
         rt,
-        b"round a ring in which nobody holds it",
+        "round a ring in which nobody holds it",
         open(),
-        &[1, 1, 2, 2, 1, 3, 3, 1, 1],
-    );
-    tell::calls(rt, e, b"card 1's kind A:H 1 1;card 2's kind A:H 2 1;");
+        &[[1, 1, 2], [2, 1, 3], [3, 1, 1]],
+    )?;
+    tell::calls(
+        rt,
+        e,
+        &[("card 1's kind A", "H 1 1"), ("card 2's kind A", "H 2 1")],
+    )?;
     settle(
         rt,
-        b"round the ring, and one gift more",
+        "round the ring, and one gift more",
         e,
-        &[1, 1, 2, 2, 1, 3, 3, 1, 1, 1, 1, 2],
-    );
+        &[[1, 1, 2], [2, 1, 3], [3, 1, 1], [1, 1, 2]],
+    )?;
+    Ok(())
 }
 
 // An engine that no calls make: card 1 holds one A and card 2 so many.
 fn holding(count: u32) -> Engine {
-    let e = open();
-    let mut holdings = e.holdings;
-    holdings[0] = 1;
-    holdings[16] = count;
-    Engine { holdings, ..e }
+    let mut engine = open();
+    engine.holdings[0] = 1;
+    engine.holdings[16] = count;
+    engine
 }
 
-pub(crate) fn limits(rt: &impl Print) {
-    let most = 1_000_000_000;
+pub(crate) fn limits(rt: &impl Print) -> io::Result<()> {
+    let most = holding(1_000_000_000);
+    let beyond = holding(u32::MAX);
+    let passed_on = [[1, 1, 2], [2, 1, 3]];
     settle(
         rt,
-        b"receipt of a card at the limit, passed on",
-        holding(most),
-        &[1, 1, 2, 2, 1, 3],
-    );
-    settle(
-        rt,
-        b"receipt of a card at the limit",
-        holding(most),
-        &[1, 1, 2],
-    );
-    settle(
-        rt,
-        b"receipt beyond 32 bits, passed on",
-        holding(u32::MAX),
-        &[1, 1, 2, 2, 1, 3],
-    );
-    settle(
-        rt,
-        b"beyond 32 bits, and not covered",
-        holding(u32::MAX),
-        &[3, 1, 2],
-    );
+        "receipt of a card at the limit, passed on",
+        most,
+        &passed_on,
+    )?;
+    settle(rt, "receipt of a card at the limit", most, &[[1, 1, 2]])?;
+    settle(rt, "receipt beyond 32 bits, passed on", beyond, &passed_on)?;
+    settle(rt, "beyond 32 bits, and not covered", beyond, &[[3, 1, 2]])?;
+    Ok(())
 }
