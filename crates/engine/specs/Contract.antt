@@ -1,17 +1,17 @@
 -- What the calls promise, of every engine value and any arguments. Demand 3 is stated over these very promises.
-use Rattle.std.specs.Prelude.{◌≡◌, List, ℕ, T, length}
+use Rattle.std.specs.Prelude.{◌≡◌, List, ℕ, T, Result, length}
 use Rattle.model.specs.Limits.{holding_count}
 use Rattle.model.specs.Opening.{opening, opened_book}
 use Rattle.model.specs.Holdings.{no_holdings}
 use Rattle.model.specs.Calls.{Call, is_refused, reply_to, after}
 use Rattle.answers.specs.View.{answer_of, reply_of}
-use Rattle.answers.specs.declared.Answer.{Answer}
+use Rattle.answers.specs.declared.Refusal.{Refusal}
+use Rattle.answers.specs.declared.Told.{Told}
 use Rattle.engine.specs.View.{book_in, state_in}
 use Rattle.engine.specs.declared.Engine.{Engine}
-use Rattle.answers.specs.declared.Reply.{Reply}
 
 -- opening a text answers `answer` and yields the engine e
-pub record Opens (text : List ℕ) (answer : Answer) (e : Engine) : Type 0 where
+pub record Opens (text : List ℕ) (answer : Result (Unit {0}) Refusal) (e : Engine) : Type 0 where
   -- the first question that is answered no, or the text's book
   pub answers : answer_of (book_in e) answer ≡ opening text
   -- the text's book, or that of the empty text where it is refused
@@ -21,7 +21,7 @@ pub record Opens (text : List ℕ) (answer : Answer) (e : Engine) : Type 0 where
   pub size : length e.holdings ≡ holding_count
 
 -- a call on the engine e answers `reply` and returns the engine e'
-pub record Answers (e : Engine) (call : Call) (reply : Reply) (e' : Engine) : Type 0 where
+pub record Answers (e : Engine) (call : Call) (reply : Result Told Refusal) (e' : Engine) : Type 0 where
   -- the first question that is answered no, or what the call tells
   pub answers : reply_of reply ≡ reply_to (book_in e) (state_in e) call
   -- the holdings afterwards; cards, groups and rules stay

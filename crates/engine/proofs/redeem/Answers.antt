@@ -1,4 +1,4 @@
--- The holdings are changed in place, in a copy of the engine.
+-- The call is on the engine's holdings, over its book's number of cards.
 use Rattle.engine.proofs.CallLaws.{book-cards, called}
 use Rattle.engine.proofs.redeem.Goals as goal
 

@@ -1,6 +1,6 @@
--- The holdings are moved in place, in a copy, which is the returned engine's.
+-- The call is on the engine's holdings, over its tables.
 use Rattle.engine.proofs.CallLaws.{called}
 use Rattle.engine.proofs.settle.Goals as goal
 
 pub returns : goal.returns
-returns c = rw c.of_parts.ensures (called _ _ _ _ c.settle-reply.ensures)
+returns c = called _ _ _ _ c.settle-reply.ensures
