@@ -6,8 +6,9 @@ ghost use Rattle.judge.specs.inner.Parts.{Short, Recorded, Follows};
 ghost use Rattle.judge.specs.inner.Counts.{is_paid};
 ghost use Rattle.judge.specs.inner.Notes.{Notable, Noted};
 
+use crate::approval::Approval;
 use crate::prices::{ask_prices, first_gifts, is_paid};
-use crate::proof;
+use crate::proof::{RECORD_SIZE, Record};
 use crate::records::question;
 use answers::{Reason, Refusal};
 use rulebook::Tables;
@@ -18,17 +19,17 @@ fn note(
     exchange: &[u8],
     firsts: &[u8; 256],
     rules: &RuleTable,
-    rec: &[u8],
+    rec: Record,
     marks: &mut [bool; 32],
     counts: &mut [u8; 32],
 ) -> bool
-    requires { Notable exchange.now firsts.now rec.now marks.old counts.old }
-    ensures { Noted exchange.now rules.now rec.now marks.old counts.old result marks.new counts.new }
+    requires { Notable exchange.now firsts.now rec.bytes.now marks.old counts.old }
+    ensures { Noted exchange.now rules.now rec.entry.bytes.now marks.old counts.old result marks.new counts.new }
 {
-    let claimed = proof::claim(rec) as usize - 1;
+    let claimed = usize::from(rec.claim()) - 1;
     marks[claimed] = true;
-    let row = row_at(rules, proof::rule(rec));
-    ask_prices(exchange, firsts, row, rec, counts)
+    let row = row_at(rules, rec.rule());
+    ask_prices(exchange, firsts, Approval { row, rec }, counts)
 }
 
 // Question 21, the last.
@@ -53,8 +54,8 @@ pub(crate) fn follow(tables: &Tables, exchange: &[u8], proof: &[u8]) -> Result<(
     let mut missing = false;
     let mut next: u8 = 1;
     for i in 0..n {
-        let rec = proof::record_at(proof, next as usize - 1);
-        let records = proof.len() / proof::RECORD_SIZE;
+        let rec = Record::at(proof, next);
+        let records = proof.len() / RECORD_SIZE;
         let asked = question(tables, exchange, rec, &marks, n - (i + 1), records);
         asked.map_err(|reason| reason.at(u32::from(next)))?;
         missing = missing
@@ -66,7 +67,7 @@ pub(crate) fn follow(tables: &Tables, exchange: &[u8], proof: &[u8]) -> Result<(
                 &mut marks,
                 &mut counts,
             );
-        next = proof::next(rec);
+        next = rec.next();
     }
     last(exchange, &counts, missing)
 }

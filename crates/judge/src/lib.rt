@@ -1,11 +1,12 @@
 // An exchange and its proof judged over a rulebook's two tables: questions 12 to 21 of document 01.
 // Modules: `sizes` asks 12 and 14 (crate transfers 13), `records` 15, 16 and 20, `variables` 17, `prices` 18 and 21, `conditions` 19;
-// `chain` takes the records in turn.
+// `chain` takes the records in turn, each with its rule as an `approval`.
 //
 // The two tables are lent. Any value of them is taken: counts past their limit are cut to it.
 
 #![tactic(auto)]
 
+mod approval;
 mod chain;
 mod conditions;
 mod prices;

@@ -1,10 +1,8 @@
 // A proof's records of 12 bytes: where their bytes are, and what these say (model's specs/Proof.antt).
-ghost use Rattle.std.specs.Prelude.{◌≡◌, ◌+◌, ◌*◌, ◌≤◌, length, get_or};
-ghost use Rattle.model.specs.Limits.{record_size};
-ghost use Rattle.model.specs.Fairness.{card_of};
+ghost use Rattle.std.specs.Prelude.{◌≡◌, ◌*◌, ◌<◌, ◌≤◌, length, get_or};
+ghost use Rattle.model.specs.Limits.{record_size, variable_count};
 ghost use Rattle.model.specs.Proof as model;
 ghost use Rattle.model.specs.Proof.{record_at};
-ghost use Rattle.rulebook.specs.View.{name_view};
 
 pub(crate) const RECORD_SIZE: usize = 12;
 
@@ -18,54 +16,55 @@ const ZERO: usize = 3;
 
 const CARDS: usize = 4;
 
-// Record i of the proof, from 0.
-pub(crate) fn record_at<'a>(proof: &'a [u8], i: usize) -> &'a [u8]
-    requires { i * record_size + record_size ≤ length proof.now }
-    ensures { result.now ≡ record_at proof.now (i + 1) }
-{
-    let from = i * RECORD_SIZE;
-    let to = from + RECORD_SIZE;
-    &proof[from..to]
+// A record of a proof.
+#[derive(Clone, Copy)]
+pub(crate) struct Record<'a> {
+    pub(crate) bytes: &'a [u8],
+    ghost whole: { length bytes.now ≡ record_size },
 }
 
-pub(crate) fn next(rec: &[u8]) -> u8
-    ensures { result ≡ model.next rec.now }
-{
-    ascii::byte(rec, NEXT)
-}
-
-pub(crate) fn claim(rec: &[u8]) -> u8
-    ensures { result ≡ model.claim rec.now }
-{
-    ascii::byte(rec, CLAIM)
-}
-
-pub(crate) fn rule(rec: &[u8]) -> u8
-    ensures { result ≡ model.rule_number rec.now }
-{
-    ascii::byte(rec, RULE)
-}
-
-// Byte 3, which has to be zero.
-pub(crate) fn zero(rec: &[u8]) -> u8
-    ensures { result ≡ get_or rec.now 3 0 }
-{
-    ascii::byte(rec, ZERO)
-}
-
-// The card of a variable, from 0.
-pub(crate) fn card(rec: &[u8], v: u8) -> u8
-    ensures { result ≡ model.cards rec.now v }
-{
-    ascii::byte(rec, CARDS + v as usize)
-}
-
-// The card of a variable, or the owner for any other name.
-pub(crate) fn card_of(rec: &[u8], owner: u8, name: u8) -> u8
-    ensures { result ≡ card_of owner (model.cards rec.now) (name_view name) }
-{
-    if name < limits::VARIABLE_COUNT {
-        return card(rec, name);
+impl<'a> Record<'a> {
+    // The record of a number, from 1.
+    pub(crate) fn at(proof: &'a [u8], number: u8) -> Record<'a>
+        requires { (1 ≤ number) × (number * record_size ≤ length proof.now) }
+        ensures { result.bytes.now ≡ record_at proof.now number }
+    {
+        let end = usize::from(number) * RECORD_SIZE;
+        Record {
+            bytes: &proof[end - RECORD_SIZE..end],
+        }
     }
-    owner
+
+    pub(crate) fn next(self) -> u8
+        ensures { result ≡ model.next self.entry.bytes.now }
+    {
+        self.bytes[NEXT]
+    }
+
+    pub(crate) fn claim(self) -> u8
+        ensures { result ≡ model.claim self.entry.bytes.now }
+    {
+        self.bytes[CLAIM]
+    }
+
+    pub(crate) fn rule(self) -> u8
+        ensures { result ≡ model.rule_number self.entry.bytes.now }
+    {
+        self.bytes[RULE]
+    }
+
+    // Byte 3, which has to be zero.
+    pub(crate) fn zero(self) -> u8
+        ensures { result ≡ get_or self.entry.bytes.now 3 0 }
+    {
+        self.bytes[ZERO]
+    }
+
+    // The card of a variable, from 0.
+    pub(crate) fn card(self, v: u8) -> u8
+        requires { v < variable_count }
+        ensures { result ≡ model.cards self.entry.bytes.now v }
+    {
+        self.bytes[CARDS + usize::from(v)]
+    }
 }

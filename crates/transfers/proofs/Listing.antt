@@ -1,16 +1,20 @@
 -- A list of transfers by its places: what a walk over it has counted, and that the list read from an exchange begins with the
 -- model's.
 use mathlib.Core.Path.{◌≡◌, refl, sym, ◌∙◌, ap}
+use mathlib.Core.Bool.{Bool, true, false, cond, ◌&&◌}
 use mathlib.Core.List.{List, [], ◌∷◌, ◌++◌}
 use mathlib.Core.Logic.{⊎_elim}
 use Prim.Native.Nat.{ℕ, zero, suc, ◌+◌, ◌≤◌, ◌<◌, min}
 use native.Mathlib.Omega.{arith}
 use native.Mathlib.Nat.{eq-or-lt_of_le}
+use lib.Dec.{eqb}
 use lib.ListN.{length, get_or, set, take, replicate, length-set, length-map, length-replicate, get_or-eq_default}
 use lib.Seq.{take-length, take-suc, get_or-set_same, get_or-set_other}
+use Rattle.std.specs.Prelude.{count_by}
+use Rattle.std.proofs.lemmas.List.Recursion.{is_count_by}
 use Rattle.model.specs.Limits.{exchange_limit}
-use Rattle.model.specs.Lists.{up_to}
-use Rattle.model.specs.Transfers.{Transfer, same, count, transfer_at, exchange_of, no_transfer}
+use Rattle.model.specs.Lists.{one_if, up_to}
+use Rattle.model.specs.Transfers.{Transfer, eq_transfer, same, count, transfer_at, exchange_of, no_transfer}
 use Rattle.model.proofs.Places.{all_equal, up_to_length, up_to_at, up_to_cong}
 use Rattle.model.proofs.Loops.{count-more, occurs_at}
 use Rattle.model.proofs.Counting.{count_le}
@@ -125,3 +129,20 @@ module _ (e : List ℕ) where
           (λ (d : j < i). h.each j d)
           (λ (d : i ≤ j). h.rest j d ∙ sym (past e j (omega arith)))
           (lt_or_ge j i)
+
+-- ---- the same transfers counted
+
+abbrev pub is_same : declared.Transfer → declared.Transfer → Bool
+is_same t u = eqb t.giver u.giver && (eqb t.kind u.kind && eqb t.receiver u.receiver)
+
+pub same≡ : (t u : declared.Transfer) → same (transfer_of t) (transfer_of u) ≡ one_if (is_same t u)
+unfolding same eq_transfer
+same≡ t u = refl
+
+pub counted : (t : declared.Transfer) (xs : List declared.Transfer) → count_by (is_same t) xs ≡ count (transfer_of t) (transfers_of xs)
+counted t xs = sym (is_count_by (λ (ys : List declared.Transfer). count (transfer_of t) (transfers_of ys)) (is_same t) refl (λ u ys. step u ys (is_same t u) (same≡ t u)) xs)
+  where
+    step : (u : declared.Transfer) (ys : List declared.Transfer) (b : Bool) → same (transfer_of t) (transfer_of u) ≡ one_if b
+        → count (transfer_of t) (transfers_of (u ∷ ys)) ≡ cond b (1 + count (transfer_of t) (transfers_of ys)) (count (transfer_of t) (transfers_of ys))
+    step u ys true h = omega (arith, h)
+    step u ys false h = omega (arith, h)

@@ -2,11 +2,10 @@
 
 #![tactic(auto)]
 
-ghost use Rattle.std.specs.Prelude.{◌≡◌, ◌+◌, ◌<◌, ◌≤◌, ◌^◌, not, min, take, get_or, position};
+ghost use Rattle.std.specs.Prelude.{◌≡◌, ◌+◌, not, take, get_or, position};
 ghost use Rattle.std.specs.Option.{option_map};
-ghost use Rattle.model.specs.Transfers as model;
 ghost use Rattle.model.specs.Transfers.{count, exchange_of, no_transfer};
-ghost use Rattle.transfers.specs.View.{transfer_of, transfers_of, transfer_count, list_size, Listed};
+ghost use Rattle.transfers.specs.View.{transfer_of, transfers_of, Listed};
 ghost use Rattle.model.specs.Fairness.{is_proper_of};
 
 const TRANSFER_SIZE: usize = limits::TRANSFER_SIZE as usize;
@@ -15,24 +14,25 @@ const TRANSFER_SIZE: usize = limits::TRANSFER_SIZE as usize;
 const LIST_SIZE: usize = 32;
 
 // The giver gives the receiver one token of the kind.
-#[derive(Clone, Copy)]
+#[derive(Clone, Copy, Debug, PartialEq, Eq, Hash)]
 pub struct Transfer {
     pub giver: u8,
     pub kind: u8,
     pub receiver: u8,
 }
 
+const NO_TRANSFER: Transfer = Transfer {
+    giver: 0,
+    kind: 0,
+    receiver: 0,
+};
+
 // Transfer i of the exchange, from 0; zeros where there is none.
 pub fn transfer_at(exchange: &[u8], i: usize) -> Transfer
     ensures { transfer_of result ≡ get_or (exchange_of exchange.now) i no_transfer }
 {
-    let n = exchange.len() / TRANSFER_SIZE;
-    if n <= i {
-        return Transfer {
-            giver: 0,
-            kind: 0,
-            receiver: 0,
-        };
+    if exchange.len() / TRANSFER_SIZE <= i {
+        return NO_TRANSFER;
     }
     let at = i * TRANSFER_SIZE;
     Transfer {
@@ -40,16 +40,6 @@ pub fn transfer_at(exchange: &[u8], i: usize) -> Transfer
         kind: exchange[at + 1],
         receiver: exchange[at + 2],
     }
-}
-
-// 1 for equal transfers, giver, kind and receiver taken together, 0 for others.
-pub fn same(t: Transfer, u: Transfer) -> u8
-    ensures { (result ≡ model.same (transfer_of t) (transfer_of u)) × (result ≤ 1) }
-{
-    if (t.giver == u.giver) & ((t.kind == u.kind) & (t.receiver == u.receiver)) {
-        return 1;
-    }
-    0
 }
 
 // Question 13 of one transfer.
@@ -70,64 +60,29 @@ pub fn first_improper(declared: u8, exchange: &[u8]) -> Option<usize>
         .map(|i| i + 1)
 }
 
-// How many transfers a list takes of the exchange.
-fn listed(exchange: &[u8]) -> usize
-    ensures { result ≡ min (transfer_count exchange.now) list_size }
-{
-    limits::least(exchange.len() / TRANSFER_SIZE, LIST_SIZE)
-}
-
-// The exchange's first 32 transfers, then transfers of zeros.
-pub fn read_list(exchange: &[u8]) -> [Transfer; 32]
+// The exchange's first 32 transfers, then transfers of zeros. The places have a counter of their own, since `array::from_fn` reads all 32:
+// a settlement of four transfers, one of them asked twice, then takes 24 % more instructions.
+pub fn read_list(exchange: &[u8]) -> [Transfer; LIST_SIZE]
     ensures { Listed exchange.now result }
 {
-    let n = listed(exchange);
-    let mut list = [Transfer {
-        giver: 0,
-        kind: 0,
-        receiver: 0,
-    }; 32];
+    let n = (exchange.len() / TRANSFER_SIZE).min(LIST_SIZE);
+    let mut list = [NO_TRANSFER; LIST_SIZE];
     for i in 0..n {
         list[i] = transfer_at(exchange, i);
     }
     list
 }
 
-// The sum, and one more if the transfers are equal.
-fn add_same(sum: usize, t: Transfer, u: Transfer) -> usize
-    requires { sum + 1 < 2 ^ 64 }
-    ensures { result ≡ sum + model.same (transfer_of t) (transfer_of u) }
-{
-    sum + same(t, u) as usize
-}
-
-// How often the transfer is in the list.
+// How often the transfer is in the list, which is lent as a slice of structs.
 fn count_equal(list: &[Transfer], t: Transfer) -> usize
     ensures { result ≡ count (transfer_of t) (transfers_of list.now) }
 {
-    let mut sum: usize = 0;
-    let mut i: usize = 0;
-    while i < list.len() {
-        sum = add_same(sum, t, list[i]);
-        i += 1;
-    }
-    sum
-}
-
-// The list is lent from here, as a slice of structs: its first n.
-fn count_first(list: [Transfer; 32], n: usize, t: Transfer) -> usize
-    requires { n ≤ 32 }
-    ensures { result ≡ count (transfer_of t) (transfers_of (take n list)) }
-{
-    count_equal(&list[..n], t)
+    list.iter().filter(|u| t == **u).count()
 }
 
 // How often the transfer is among the first n of the list.
-pub fn count_in(list: [Transfer; 32], n: usize, t: Transfer) -> usize
-    ensures { result ≡ count (transfer_of t) (transfers_of (take n list)) }
+pub fn count_in(list: &[Transfer; LIST_SIZE], n: usize, t: Transfer) -> usize
+    ensures { result ≡ count (transfer_of t) (transfers_of (take n list.now)) }
 {
-    if LIST_SIZE < n {
-        return count_first(list, LIST_SIZE, t);
-    }
-    count_first(list, n, t)
+    count_equal(&list[..n.min(LIST_SIZE)], t)
 }

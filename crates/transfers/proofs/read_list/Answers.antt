@@ -11,4 +11,4 @@ pub loop-i-preserved : goal.loop-i-preserved
 loop-i-preserved c = (search rules, begun_more _ _ _ c.loop-i.invariant.1 _ c.transfer_at.ensures (omega arith))
 
 pub returns : goal.returns
-returns c = let o = c.loop-i in begun_all _ _ o.i o.invariant.1 (omega (arith, c.listed-n.ensures))
+returns c = let o = c.loop-i in begun_all _ _ o.i o.invariant.1 (omega arith)

@@ -17,7 +17,7 @@ use Rattle.judge.proofs.Following.{going_first, going_stops, going_ends, Turn, t
 use Rattle.model.specs.Questions.{ok, refused, done}
 use Rattle.model.specs.Proof.{record_at, judge_chain}
 use Rattle.judge.proofs.chain.follow.Goals as goal
-use Rattle.judge.proofs.chain.follow.Goals.{After-loop-i, After-record_at-rec, At-loop-i, In_ok-map_err, In-loop-i}
+use Rattle.judge.proofs.chain.follow.Goals.{After-loop-i, After-at-rec, At-loop-i, In_ok-map_err, In-loop-i}
 
 -- how many transfers are not claimed yet
 abbrev left : At-loop-i → ℕ
@@ -34,21 +34,18 @@ here : (c : In-loop-i) → let n = c.loop-i.next in let p = c.args.proof.now in
     (1 ≤ n) × (n * 12 ≤ length p) × (length p ≤ 3060)
 here c = let h = c.loop-i.invariant.1.here (some c) in (h.0, h.1, c.requires.1.few)
 
-number : (c : After-record_at-rec) → let n = c.loop-i.next in n - 1 + 1 ≡ n
-number c = omega (arith, here (goal.at.After-record_at-rec c).In-loop-i)
-
-taken : (c : After-record_at-rec) → c.record_at-rec.result.now ≡ record_at c.args.proof.now c.loop-i.next
-taken c = rw (number c) at c.record_at-rec.ensures
+taken : (c : After-at-rec) → c.at-rec.result.bytes.now ≡ record_at c.args.proof.now c.loop-i.next
+taken c = c.at-rec.ensures
 
 turn : (c : In_ok-map_err) → let o = c.loop-i in
-    Turn c.args.tables.now.cards c.args.tables.now.rules c.args.exchange.now c.args.proof.now c.first_gifts-firsts.result (left (goal.at.In_ok-map_err c).At-loop-i) o.marks o.counts o.missing c.record_at-rec.result.now
+    Turn c.args.tables.now.cards c.args.tables.now.rules c.args.exchange.now c.args.proof.now c.first_gifts-firsts.result (left (goal.at.In_ok-map_err c).At-loop-i) o.marks o.counts o.missing c.at-rec.result.bytes.now
 turn c =
     let o = c.loop-i in
     let told : at_record o.next c.question-asked.result ≡ c.map_err.result = search rules in
     let met = met_at o.next c.question-asked.result _ (told ∙ c.in_ok-map_err.was) in
     let q = rw (less (transfer_count c.args.exchange.now) o.i) at c.question-asked.ensures in
-    turn_facts c.args.tables.now.cards c.args.tables.now.rules c.args.exchange.now c.args.proof.now _ c.requires.0 c.first_gifts-firsts.ensures (left (goal.at.In_ok-map_err c).At-loop-i) o.marks o.counts o.missing o.next c.record_at-rec.result.now
-    o.invariant.1 (some (goal.at.In_ok-map_err c).In-loop-i) (taken (goal.at.In_ok-map_err c).After-record_at-rec) (sym q ∙ met)
+    turn_facts c.args.tables.now.cards c.args.tables.now.rules c.args.exchange.now c.args.proof.now _ c.requires.0 c.first_gifts-firsts.ensures (left (goal.at.In_ok-map_err c).At-loop-i) o.marks o.counts o.missing o.next c.at-rec.result.bytes.now
+    o.invariant.1 (some (goal.at.In_ok-map_err c).In-loop-i) (taken (goal.at.In_ok-map_err c).After-at-rec) (sym q ∙ met)
 
 -- the answer after the loop is question 21's
 ended : (c : After-loop-i) → let o = c.loop-i in
@@ -62,11 +59,8 @@ loop-i-init c =
     let all : transfer_count c.args.exchange.now - 0 ≡ transfer_count c.args.exchange.now = omega arith in
     (search rules, rw all (going_first c.args.tables.now.cards c.args.tables.now.rules c.args.exchange.now c.args.proof.now c.requires.0 c.requires.1.some))
 
-pub overflow_sub-next : goal.overflow_sub-next
-overflow_sub-next c = omega (arith, here c)
-
-pub record_at-rec-requires : goal.record_at-rec-requires
-record_at-rec-requires c = omega (arith, here c)
+pub at-rec-requires : goal.at-rec-requires
+at-rec-requires c = let h = here c in (h.0, h.1)
 
 pub question-asked-requires : goal.question-asked-requires
 question-asked-requires c = c.requires.0
@@ -79,7 +73,7 @@ returns-in_err-map_err c =
     let why = c.in_err-map_err.field-0.0 in
     let told : at_record o.next c.question-asked.result ≡ c.map_err.result = search rules in
     let w = refused_at o.next c.question-asked.result why (told ∙ c.in_err-map_err.was) in
-    let q = rw (less (transfer_count c.args.exchange.now) o.i, taken at.After-record_at-rec, w.0) at c.question-asked.ensures in
+    let q = rw (less (transfer_count c.args.exchange.now) o.i, taken at.After-at-rec, w.0) at c.question-asked.ensures in
     rw (p.1, p.2, q, w.1)
     (going_stops c.args.tables.now.cards c.args.tables.now.rules c.args.exchange.now c.args.proof.now c.requires.0 (left at.At-loop-i) o.marks o.counts o.missing o.next o.invariant.1 (some at.In-loop-i)
     (λ z. omega (arith, q, z, number_positive why.reason)))

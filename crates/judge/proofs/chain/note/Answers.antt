@@ -1,5 +1,5 @@
 -- The claim's mark is the one that is set, and the row is the rule's.
-use mathlib.Core.Path.{◌≡◌, ap}
+use mathlib.Core.Path.{◌≡◌, ◌∙◌, ap}
 use mathlib.Core.Bool.{true}
 use Prim.Native.Nat.{ℕ, ◌-◌, min}
 use native.Mathlib.Omega.{arith}
@@ -11,8 +11,8 @@ use Rattle.judge.proofs.chain.note.Goals as goal
 pub returns : goal.returns
 returns c =
     let rule = c.rule.ensures in
-    let n : min (rule_number c.args.rec.now) rule_limit ≡ rule_number c.args.rec.now = omega (arith, c.requires.rule_bounds) in
+    let n : min (rule_number c.args.rec.bytes.now) rule_limit ≡ rule_number c.args.rec.bytes.now = omega (arith, c.requires.rule_bounds) in
     record {
-      claimed = ap (λ (k : ℕ). set c.args.marks.now (k - 1) true) c.claim.ensures;
+      claimed = ap (λ (k : ℕ). set c.args.marks.now (k - 1) true) (c.from-claimed.ensures ∙ c.claim.ensures);
       asked = rw (c.row_at-row.ensures, rule, n) at c.ask_prices.ensures;
     }

@@ -1,51 +1,56 @@
--- The transfer is at no place before j, and nothing is counted yet.
+-- The transfer is sought from its giver's first on, and nothing before is it.
 use borrow.Author.Rules.{rules}
 use native.Mathlib.Omega.{arith}
-use Prim.Native.Nat.{◌≤◌, ◌<◌}
+use Prim.Native.Nat.{ℕ, ◌≤◌, ◌<◌}
 use lib.ListN.{get_or}
-use mathlib.Core.Path.{◌≡◌, refl, sym, ◌∙◌}
-use Rattle.model.specs.Transfers.{same, transfer_at}
+use mathlib.Core.Path.{◌≡◌}
+use mathlib.Core.Bool.{true, false}
+use Rattle.std.proofs.lemmas.Iterator.{first_from_Range}
+use Rattle.model.specs.Lists.{up_to}
+use Rattle.model.specs.Transfers.{count, transfer_at}
 use Rattle.transfers.specs.View.{transfer_of, transfer_count}
-use Rattle.model.proofs.Counting.{same_equal}
-use Rattle.transfers.proofs.Listing.{here}
 use Rattle.judge.proofs.Gifts.{gifts-before}
-use Rattle.judge.proofs.Paying.{absent_more, asks_nobody, asks_first}
+use Rattle.judge.proofs.Paying.{is_it, Sought, sought_some, sought_none, asks_nobody, asks_first}
 use Rattle.judge.proofs.prices.ask.Goals as goal
-use Rattle.judge.proofs.prices.ask.Goals.{After-first-1, After-same}
+use Rattle.judge.proofs.prices.ask.Goals.{Start, After-find, In-Some}
 
--- the transfer compared is transfer j
-compared : (c : After-same) → let a = c.args in
-    c.same.result ≡ same (transfer_of a.t) (transfer_at a.exchange.now c.loop-j.j)
-compared c = rw (c.transfer_at.ensures ∙ here _ _ c.loop-j-test.true) at c.same.ensures.0
+-- where the transfer's giver gives first
+abbrev first : Start → ℕ
+first s = get_or s.args.firsts.now s.args.t.giver 0
 
--- the giver's first transfer is one of the exchange, or its end
-first_low : (c : After-first-1) → let a = c.args in
-    get_or a.firsts.now a.t.giver 0 ≤ transfer_count a.exchange.now
-first_low c = c.requires.2.low _ (search rules)
+low : (s : Start) → first s ≤ transfer_count s.args.exchange.now
+low s = s.requires.2.low _ (search rules)
 
-pub overflow_cast-first : goal.overflow_cast-first
-overflow_cast-first c = omega (arith, first_low c, c.requires.0)
+none : (s : Start) → count (transfer_of s.args.t) (up_to (transfer_at s.args.exchange.now) (first s)) ≡ 0
+none s = gifts-before _ _ _ s.requires.2 (search rules)
 
-pub loop-j-init : goal.loop-j-init
-loop-j-init c =
-    let b : c.args.t.giver < 256 = search rules in
-    (first_low c, refl, gifts-before _ _ _ c.requires.2 b)
+sought : (c : After-find) → let s = (goal.at.After-find c).Start in let a = c.args in
+    Sought a.exchange.now (transfer_of a.t) (first s) (transfer_count a.exchange.now) c.find.result
+sought c =
+    let a = c.args in
+    first_from_Range _ _ _ c.find.result (λ (k : ℕ). is_it a.exchange.now (transfer_of a.t) k ≡ true) (λ (k : ℕ). is_it a.exchange.now (transfer_of a.t) k ≡ false) c.find.ensures.ran
+    (λ x q k. search rules) (λ x q k. search rules)
+
+found : (c : In-Some) → let a = c.args in let j = c.in-Some.j in
+    (j < transfer_count a.exchange.now) × (transfer_of a.t ≡ transfer_at a.exchange.now j) × (count (transfer_of a.t) (up_to (transfer_at a.exchange.now) j) ≡ 0)
+found c = let s = (goal.at.In-Some c).Start in sought_some _ _ (first s) (low s) (none s) _ (sought (goal.at.In-Some c).After-find) c.in-Some.j c.in-Some.is
+
+pub bounds-counts-j : goal.bounds-counts-j
+bounds-counts-j c = omega (arith, found (goal.at.bounds-counts-j c).In-Some, c.requires.0)
 
 pub overflow_add-counts : goal.overflow_add-counts
-overflow_add-counts c =
-    rw c.loop-j.invariant.1 (omega (arith, c.requires.1.free c.loop-j.j c.loop-j-test.true))
+overflow_add-counts c = omega (arith, c.requires.1.free c.in-Some.j (found (goal.at.overflow_add-counts c).In-Some).0)
 
-pub returns-then-same-eq1 : goal.returns-then-same-eq1
-returns-then-same-eq1 c =
-    rw c.loop-j.invariant.1
-    (asks_first _ _ c.loop-j.j c.loop-j-test.true c.requires.1.size c.requires.0 _ (same_equal _ _ (sym (compared (goal.at.returns-then-same-eq1 c).After-same) ∙ c.if-same-eq1.true)) c.loop-j.invariant.2)
+pub bounds-counts-j-in-Some : goal.bounds-counts-j-in-Some
+bounds-counts-j-in-Some c = omega (arith, found (goal.at.bounds-counts-j-in-Some c).In-Some, c.requires.0)
 
-pub loop-j-preserved : goal.loop-j-preserved
-loop-j-preserved c =
-    let o = c.loop-j in
-    (search rules, o.invariant.1, absent_more _ _ o.j _ o.invariant.2 (compared (goal.at.loop-j-preserved c).After-same) c.same.ensures.1 c.if-same-eq1.false)
+pub returns-in-Some : goal.returns-in-Some
+returns-in-Some c =
+    let w = found (goal.at.returns-in-Some c).In-Some in
+    asks_first _ _ c.in-Some.j w.0 c.requires.1.size c.requires.0 _ w.1 w.2
 
-pub returns : goal.returns
-returns c =
-    let o = c.loop-j in
-    rw o.invariant.1 (asks_nobody _ _ _ o.j o.invariant.0 c.loop-j-test.false o.invariant.2)
+pub returns-in-None : goal.returns-in-None
+returns-in-None c =
+    let s = (goal.at.returns-in-None c).Start in
+    let e = c.args.exchange.now in
+    asks_nobody e _ _ (transfer_count e) (omega arith) (omega arith) (sought_none e _ (first s) (low s) (none s) _ (sought (goal.at.returns-in-None c).After-find) c.in-None.is)

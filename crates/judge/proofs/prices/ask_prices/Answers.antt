@@ -16,11 +16,11 @@ ask-found-requires c =
 pub loop-i-preserved : goal.loop-i-preserved
 loop-i-preserved c =
     let o = c.loop-i in
-    let asked = rw c.price_at.ensures at c.ask-found.ensures in
+    let asked = rw c.price.ensures at c.ask-found.ensures in
     (search rules, search rules, price_more _ _ o.i _ _ _ o.invariant.2 _ _ asked)
 
 pub returns : goal.returns
 returns c =
     let o = c.loop-i in
-    let e : o.i ≡ row_price_count c.args.row.now = omega arith in
+    let e : o.i ≡ row_price_count c.args.approval.row.now = omega arith in
     rw e at o.invariant.2

@@ -1,7 +1,7 @@
 -- A name below 8 is a variable, any other the owner.
 use borrow.Author.Tests.{lt-ltb, le-ltb}
 use Rattle.rulebook.specs.View.{name_view}
-use Rattle.judge.proofs.proof.card_of.Goals as goal
+use Rattle.judge.proofs.approval.Approval.card.Goals as goal
 
 pub returns-then-name-lt-VARIABLE_COUNT : goal.returns-then-name-lt-VARIABLE_COUNT
 unfolding name_view
@@ -9,4 +9,4 @@ returns-then-name-lt-VARIABLE_COUNT c = rw (lt-ltb _ _ c.if-name-lt-VARIABLE_COU
 
 pub returns : goal.returns
 unfolding name_view
-returns c = rw (le-ltb _ _ c.if-name-lt-VARIABLE_COUNT.false)
+returns c = rw (le-ltb _ _ c.if-name-lt-VARIABLE_COUNT.false) c.owner.ensures

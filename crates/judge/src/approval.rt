@@ -1,0 +1,37 @@
+// A rule's row under the cards of a record, which is an approval where questions 17 to 19 are met.
+ghost use Rattle.std.specs.Prelude.{◌≡◌};
+ghost use Rattle.transfers.specs.View.{transfer_of};
+ghost use Rattle.judge.specs.inner.Rows.{card_named, price_asked};
+
+use crate::proof::Record;
+use rulebook::layout;
+use transfers::Transfer;
+
+#[derive(Clone, Copy)]
+pub(crate) struct Approval<'a> {
+    pub(crate) row: &'a [u8],
+    pub(crate) rec: Record<'a>,
+}
+
+impl<'a> Approval<'a> {
+    // The card of a name: a variable's, or the owner for any other name.
+    pub(crate) fn card(self, name: u8) -> u8
+        ensures { result ≡ card_named self.entry.row.now self.entry.rec.bytes.now name }
+    {
+        if name < limits::VARIABLE_COUNT {
+            return self.rec.card(name);
+        }
+        layout::owner(self.row)
+    }
+
+    // The transfer that price i asks.
+    pub(crate) fn price(self, i: u8) -> Transfer
+        ensures { transfer_of result ≡ price_asked self.entry.row.now self.entry.rec.bytes.now i }
+    {
+        Transfer {
+            giver: self.rec.card(layout::price_giver(self.row, i)),
+            kind: layout::price_kind(self.row, i),
+            receiver: self.card(layout::price_receiver(self.row, i)),
+        }
+    }
+}
