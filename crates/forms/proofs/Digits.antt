@@ -1,63 +1,58 @@
 -- Loops over the bytes of a card number: whether they are in printed groups, and the digits among them, in a row; and over the row.
 use mathlib.Core.Path.{◌≡◌, refl, sym, ◌∙◌, ap}
-use mathlib.Core.Bool.{Bool, true, false, not, ◌&&◌, ◌||◌, cond}
+use mathlib.Core.Bool.{Bool, true, false, not, ◌&&◌, ◌||◌}
 use mathlib.Core.List.{List, [], ◌∷◌, ◌++◌, append-nil}
 use mathlib.Core.Logic.{⊎_elim}
 use Prim.Native.Nat.{ℕ, suc, ◌+◌, ◌-◌, ◌≤◌, ◌<◌}
 use native.Mathlib.Omega.{arith}
 use native.Mathlib.Numerals.{add-one}
 use native.Mathlib.Nat.{eq-or-lt_of_le}
-use lib.Dec.{eqb, leb}
+use lib.Dec.{leb}
 use lib.ListN.{length, get_or, set, take, drop, replicate, length-append, length-drop, length-set, drop_of_length-le, get_or-append, get_or-eq_default}
 use lib.Seq.{drop-cons, drop-length, take-suc, take-length, get_or-take, get_or-append_seam, get_or-set_same, get_or-set_other, length-take-le, ext_get_or}
 use borrow.Author.Tests.{leb-true}
 use Rattle.model.specs.Limits.{least_digits, most_digits}
-use Rattle.model.specs.Lists.{one_if, each}
+use Rattle.model.specs.Lists.{each}
 use Rattle.model.specs.CardNumbers.{weighed, luhn_sum}
 use Rattle.model.specs.Reader.{digit_of, is_digit, is_hyphen, in_printed_groups, space_at, is_card_line, card_read}
-use Rattle.model.specs.Opening.{card_digits, is_card_number}
-use Rattle.model.proofs.Tests.{eq-T, both_true, and-false_right, lt_or_ge}
+use Rattle.model.specs.Opening.{is_card_number}
+use Rattle.model.proofs.Tests.{and-false_right, lt_or_ge}
 use Rattle.model.proofs.Places.{up_to_length, up_to_at}
 use Rattle.model.proofs.Words.{each_append}
-use Rattle.model.proofs.PrintedGroups.{digits_at, digits_among, some-digit}
-use Rattle.forms.specs.Numbers.{in_row, line_digits, digits_in, is_number_in}
-use Rattle.forms.specs.inner.Words.{word_digits}
+use Rattle.model.proofs.PrintedGroups.{digits_at, digits_among}
+use Rattle.std.specs.Prelude.{Some, None, if◌then◌else◌}
+use Rattle.forms.specs.Numbers.{in_row, card_number_in, digits_in, is_number_in}
+use Rattle.forms.specs.inner.Words.{word_number_in}
 use Rattle.forms.specs.declared.cards.CardNumber.{CardNumber}
 
--- ---- whether bytes are in printed groups: those before i are, and `before` tells how many digits the last of them is
+-- ---- whether bytes are in printed groups: those before i are, and `after` tells whether the last of them is a digit
 
--- a byte of n digits that has no place after one of m: it is no digit, and no hyphen after a digit
-abbrev pub stray : ℕ → ℕ → ℕ → Bool
-stray n m x = eqb n 0 && (eqb m 0 || not (is_hyphen x))
+-- a hyphen after a digit
+between : (a h f : Bool) → (not a || not h) ≡ f → (a && h) ≡ not f
+between true true f e = rw (← e) refl
+between true false f e = rw (← e) refl
+between false h f e = rw (← e) refl
 
--- d, h for a digit and a hyphen, p where the byte before is no digit
-in_place : (d p h : Bool) → (d || (not p && h)) ≡ not (eqb (one_if d) 0 && (p || not h))
-in_place true p h = refl
-in_place false true h = refl
-in_place false false true = refl
-in_place false false false = refl
-
-digit-before : (d : Bool) → not (eqb (one_if d) 0) ≡ d
-digit-before true = refl
-digit-before false = refl
-
-module _ (s : List ℕ) (i before : ℕ) (h : in_printed_groups (not (eqb before 0)) (drop i s) ≡ in_printed_groups false s) where
-  module _ {n : ℕ} (l : i < length s) (p : n ≡ one_if (is_digit (get_or s i 0))) where
-    turn : (not (stray n before (get_or s i 0)) && in_printed_groups (not (eqb n 0)) (drop (i + 1) s)) ≡ in_printed_groups false s
+module _ (s : List ℕ) (i : ℕ) (after : Bool) (h : in_printed_groups after (drop i s) ≡ in_printed_groups false s) where
+  module _ (l : i < length s) where
+    next : ((is_digit (get_or s i 0) || (after && is_hyphen (get_or s i 0))) && in_printed_groups (is_digit (get_or s i 0)) (drop (i + 1) s)) ≡ in_printed_groups false s
     unfolding in_printed_groups
-    turn =
-        let x = get_or s i 0 in
-        let next : in_printed_groups (not (eqb before 0)) (drop i s)
-        ≡ ((is_digit x || (not (eqb before 0) && is_hyphen x)) && in_printed_groups (is_digit x) (drop (i + 1) s)) = rw (add-one i, drop-cons s i 0 l) in
-        rw (p, ← in_place (is_digit x) (eqb before 0) (is_hyphen x), digit-before (is_digit x)) (sym next ∙ h)
+    next =
+        let e : in_printed_groups after (drop i s)
+        ≡ ((is_digit (get_or s i 0) || (after && is_hyphen (get_or s i 0))) && in_printed_groups (is_digit (get_or s i 0)) (drop (i + 1) s)) = rw (add-one i, drop-cons s i 0 l) in
+        sym e ∙ h
 
-    pub misplaced : stray n before (get_or s i 0) ≡ true → in_printed_groups false s ≡ false
-    misplaced e = sym turn ∙ rw e
+    pub digit-placed : is_digit (get_or s i 0) ≡ true → in_printed_groups true (drop (i + 1) s) ≡ in_printed_groups false s
+    digit-placed e = rw e at next
 
-    pub placed : stray n before (get_or s i 0) ≡ false → in_printed_groups (not (eqb n 0)) (drop (i + 1) s) ≡ in_printed_groups false s
-    placed e = rw e at turn
+    module _ (e : is_digit (get_or s i 0) ≡ false) where
+      pub hyphen-placed : (not after || not (is_hyphen (get_or s i 0))) ≡ false → in_printed_groups false (drop (i + 1) s) ≡ in_printed_groups false s
+      hyphen-placed f = rw (e, between after (is_hyphen (get_or s i 0)) false f) at next
 
-  pub all_placed : i ≡ length s → not (eqb before 0) ≡ in_printed_groups false s
+      pub misplaced : (not after || not (is_hyphen (get_or s i 0))) ≡ true → in_printed_groups false s ≡ false
+      misplaced f = sym (rw (e, between after (is_hyphen (get_or s i 0)) true f) at next)
+
+  pub all_placed : i ≡ length s → after ≡ in_printed_groups false s
   unfolding in_printed_groups
   all_placed e = rw (e, drop-length s) at h
 
@@ -120,69 +115,48 @@ module _ {s : List ℕ} {i count : ℕ} {row : List ℕ} (t : Taken s i count ro
   pub taken-size : length row ≡ most_digits
   taken-size = ap length t.placed_in ∙ up_to_length (λ d. get_or (each digits_at (take i s)) d 0) most_digits
 
-  -- a byte more, which is n digits and leaves the row so
-  pub taken_more : (n : ℕ) (row' : List ℕ) → i < length s → let x = get_or s i 0 in
-      n ≡ one_if (is_digit x) → row' ≡ cond (is_digit x) (set row count (digit_of x)) row → Taken s (i + 1) (count + n) row'
-  taken_more n row' l p q = rw (p, q) (go (is_digit x) refl)
-    where
-      x : ℕ
-      x = get_or s i 0
+  module _ (l : i < length s) where
+    one_byte : each digits_at (take (i + 1) s) ≡ each digits_at (take i s) ++ (digits_at (get_or s i 0) ++ [])
+    one_byte = rw (add-one i, take-suc s i 0 l) (each_append digits_at (take i s) (get_or s i 0 ∷ []))
 
-      ds : List ℕ
-      ds = each digits_at (take i s)
+    pub taken_digit : {d : ℕ} → is_digit (get_or s i 0) ≡ true → digit_of (get_or s i 0) ≡ d → Taken s (i + 1) (count + 1) (set row count d)
+    taken_digit {d} e f =
+        let ds = each digits_at (take i s) in
+        let more : each digits_at (take (i + 1) s) ≡ ds ++ (d ∷ []) = one_byte ∙ rw (e, f) in
+        record {
+          counted = rw more (omega (arith, t.counted, length-append ds (d ∷ [])));
+          placed_in = rw (more, t.placed_in, t.counted) (row_more ds d);
+          few = omega (arith, t.few);
+        }
 
-      one_byte : each digits_at (take (i + 1) s) ≡ ds ++ (digits_at x ++ [])
-      one_byte = rw (add-one i, take-suc s i 0 l) (each_append digits_at (take i s) (x ∷ []))
+    pub taken_hyphen : is_digit (get_or s i 0) ≡ false → Taken s (i + 1) count row
+    taken_hyphen e =
+        let ds = each digits_at (take i s) in
+        let same : each digits_at (take (i + 1) s) ≡ ds = one_byte ∙ rw (e, append-nil ds) in
+        record { counted = rw same t.counted; placed_in = rw same t.placed_in; few = omega (arith, t.few) }
 
-      go : (d : Bool) → is_digit x ≡ d → Taken s (i + 1) (count + one_if d) (cond d (set row count (digit_of x)) row)
-      go true e =
-          let more : each digits_at (take (i + 1) s) ≡ ds ++ (digit_of x ∷ []) = one_byte ∙ rw e in
-          record {
-            counted = rw more (omega (arith, t.counted, length-append ds (digit_of x ∷ [])));
-            placed_in = rw (more, t.placed_in, t.counted) (row_more ds (digit_of x));
-            few = omega (arith, t.few);
-          }
-      go false e =
-          let same : each digits_at (take (i + 1) s) ≡ ds = one_byte ∙ rw (e, append-nil ds) in
-          record { counted = rw same (omega (arith, t.counted)); placed_in = rw same t.placed_in; few = omega (arith, t.few) }
-
-  pub taken_all : i ≡ length s → in_printed_groups false s ≡ true → ◌≡◌ {A = CardNumber} (record { count = count; digits = row }) (in_row (word_digits s))
+  pub taken_all : i ≡ length s → {after : Bool} → after ≡ in_printed_groups false s
+      → (if after then Some (record { count = count; digits = row }) else None) ≡ word_number_in s
   taken_all e f =
-      let all : each digits_at (take i s) ≡ word_digits s = rw (e, take-length s, f) (sym (digits_among s)) in
-      λ j. record { count = (t.counted ∙ ap length all) j; digits = (t.placed_in ∙ ap (λ (ds : List ℕ). (in_row ds).digits) all) j }
+      let all : each digits_at (take i s) ≡ each digits_at s = rw (e, take-length s) in
+      let n : ◌≡◌ {A = CardNumber} (record { count = count; digits = row }) (in_row (each digits_at s)) =
+      λ j. record { count = (t.counted ∙ ap length all) j; digits = (t.placed_in ∙ ap (λ (ds : List ℕ). (in_row ds).digits) all) j } in
+      rw (f, n, digits_among s)
 
--- ---- a line's digits: by what follows its space, and whether there are any
+-- ---- a line's number: by its space, and what follows it
 
 module _ (w : List ℕ) where
-  pub none-short : length w ≤ 2 → line_digits w ≡ []
+  pub none-short : length w < 2 → card_number_in w ≡ None
   unfolding is_card_line in_printed_groups
-  none-short l = rw (drop_of_length-le w {i = 2} l, and-false_right (space_at w 1))
+  none-short l = rw (drop_of_length-le w {i = 2} (omega arith), and-false_right (space_at w 1))
 
-  pub none_unspaced : space_at w 1 ≡ false → line_digits w ≡ []
+  pub none_unspaced : space_at w 1 ≡ false → card_number_in w ≡ None
   unfolding is_card_line
   none_unspaced e = rw e
 
-  pub digits-after : space_at w 1 ≡ true → line_digits w ≡ word_digits (drop 2 w)
+  pub number-after : space_at w 1 ≡ true → word_number_in (drop 2 w) ≡ card_number_in w
   unfolding is_card_line card_read
-  digits-after e = rw e
-
-  pub no_card-line : length (line_digits w) ≡ 0 → is_card_line w ≡ false
-  unfolding is_card_line card_read
-  no_card-line e = go (is_card_line w) refl e
-    where
-      some : is_card_line w ≡ true → 1 ≤ length (card_digits (card_read w))
-      some f = some-digit (drop 2 w) (eq-T (both_true (space_at w 1) (in_printed_groups false (drop 2 w)) f).1)
-
-      go : (x : Bool) → is_card_line w ≡ x → length (cond x (card_digits (card_read w)) []) ≡ 0 → is_card_line w ≡ false
-      go true f z = absurd (omega (arith, some f))
-      go false f z = f
-
-  pub is-card-line : (length (line_digits w) ≡ 0 → ⊥) → is_card_line w ≡ true
-  is-card-line n = go (is_card_line w) refl n
-    where
-      go : (x : Bool) → is_card_line w ≡ x → (length (cond x (card_digits (card_read w)) []) ≡ 0 → ⊥) → is_card_line w ≡ true
-      go true f m = f
-      go false f m = absurd (m refl)
+  number-after e = rw e
 
 -- ---- the digits of a row
 

@@ -1,3 +1,4 @@
+pub mod Counts
 pub mod Digits
-mod Counts
-mod Short
+pub mod Short
+pub mod Parts

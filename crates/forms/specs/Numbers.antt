@@ -1,18 +1,18 @@
 -- Card numbers as the program holds them.
-use Rattle.std.specs.Prelude.{Bool, ◌&&◌, cond, List, [], ℕ, leb, length, get_or, take}
+use Rattle.std.specs.Prelude.{Option, Some, None, if◌then◌else◌, Bool, ◌&&◌, List, ℕ, leb, length, get_or, take}
 use Rattle.model.specs.Limits.{most_digits}
 use Rattle.model.specs.Lists.{up_to}
 use Rattle.model.specs.Reader.{is_card_line, card_read}
 use Rattle.model.specs.Opening.{card_digits, is_card_number}
 use Rattle.forms.specs.declared.cards.CardNumber.{CardNumber}
 
--- the digits of a line that has a card line's form after its letter, at least one; none of any other line
-abbrev pub line_digits : List ℕ → List ℕ
-line_digits w = cond (is_card_line w) (card_digits (card_read w)) []
-
 -- the number of these digits: how many there are, and the first 19, zeros after the last
 abbrev pub in_row : List ℕ → CardNumber
 in_row ds = record { count = length ds; digits = up_to (λ d. get_or ds d 0) most_digits }
+
+-- the number of a line that has a card line's form
+abbrev pub card_number_in : List ℕ → Option CardNumber
+card_number_in w = if is_card_line w then Some (in_row (card_digits (card_read w))) else None
 
 -- the digits of a number that has at most 19
 abbrev pub digits_in : CardNumber → List ℕ

@@ -1,11 +1,9 @@
 // Card lines, `C digits` with a hyphen between two printed groups of digits, and card numbers.
-ghost use Rattle.std.specs.Prelude.{◌≡◌, cond, [], ◌≤◌, length, set};
+ghost use Rattle.std.specs.Prelude.{◌≡◌, ◌≤◌, set};
 ghost use Rattle.model.specs.Limits.{most_digits};
-ghost use Rattle.model.specs.Lists.{one_if};
 ghost use Rattle.model.specs.CardNumbers.{weighed, luhn};
-ghost use Rattle.model.specs.Reader.{digit_of, is_digit};
-ghost use Rattle.forms.specs.Numbers.{in_row, line_digits, digits_in, is_number_in};
-ghost use Rattle.forms.specs.inner.Words.{word_digits};
+ghost use Rattle.forms.specs.Numbers.{card_number_in, digits_in, is_number_in};
+ghost use Rattle.forms.specs.inner.Words.{word_number_in};
 
 use crate::{LEAST_DIGITS, MOST_DIGITS};
 
@@ -16,64 +14,46 @@ pub struct CardNumber {
     pub digits: [u8; 19],
 }
 
-fn no_digits() -> CardNumber
-    ensures { result ≡ in_row [] }
+// Puts a digit at a place, if the row has that place.
+fn put_digit(digits: &mut [u8; 19], at: usize, d: u8)
+    ensures { digits.new ≡ set digits.old at d }
 {
-    CardNumber {
-        count: 0,
-        digits: [0; 19],
-    }
-}
-
-// Puts a digit at a place, if the row has that place: those past the 19th are counted, not kept. Answers how many digits the byte is.
-fn put_digit(digits: &mut [u8; 19], at: usize, x: u8) -> usize
-    requires { length digits.old ≡ most_digits }
-    ensures { (result ≡ one_if (is_digit x)) × (digits.new ≡ cond (is_digit x) (set digits.old at (digit_of x)) digits.old) }
-{
-    let Some(d) = ascii::digit(x) else {
-        return 0;
-    };
     if at < MOST_DIGITS {
         digits[at] = d;
     }
-    1
 }
 
-// The digits of bytes that are digits, with at most one hyphen between two of them; none of any other bytes.
-fn word_number(s: &[u8]) -> CardNumber
-    ensures { result ≡ in_row (word_digits s.now) }
+// The number of bytes that are digits, with at most one hyphen between two of them: digits past the 19th are counted, not kept.
+fn word_number(s: &[u8]) -> Option<CardNumber>
+    ensures { result ≡ word_number_in s.now }
 {
     let mut digits = [0; 19];
     let mut count = 0;
-    // How many digits the byte before is: a hyphen needs one.
-    let mut before = 0;
-    for i in 0..s.len() {
-        let x = s[i];
-        let taken = put_digit(&mut digits, count, x);
-        if (taken == 0) & ((before == 0) | (x != b'-')) {
-            return no_digits();
+    // A hyphen needs a digit before it, and one after it.
+    let mut after_digit = false;
+    for x in s {
+        if let Some(d) = ascii::digit(*x) {
+            put_digit(&mut digits, count, d);
+            count += 1;
+            after_digit = true;
+            continue;
         }
-        before = taken;
-        count += taken;
+        if !after_digit | (*x != b'-') {
+            return None;
+        }
+        after_digit = false;
     }
-    // No byte, or a hyphen at the end.
-    if before == 0 {
-        return no_digits();
-    }
-    CardNumber { count, digits }
+    after_digit.then_some(CardNumber { count, digits })
 }
 
-// The number of a line that begins with C, of which questions 4 and 5 are asked; it has no digits exactly if the line does not have the form.
-pub fn card_number(line: &[u8]) -> CardNumber
-    ensures { result ≡ in_row (line_digits line.now) }
+// The number of a line that begins with C, of which questions 4 and 5 are asked, if the line has the form.
+pub fn card_number(line: &[u8]) -> Option<CardNumber>
+    ensures { result ≡ card_number_in line.now }
 {
-    if line.len() <= 2 {
-        return no_digits();
-    }
     if ascii::byte(line, 1) != b' ' {
-        return no_digits();
+        return None;
     }
-    word_number(&line[2..])
+    word_number(line.get(2..)?)
 }
 
 // What a digit counts in the check sum, with so many digits to its right.

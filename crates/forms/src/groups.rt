@@ -1,12 +1,23 @@
 // Group lines: `G g m`.
 ghost use Rattle.std.specs.Prelude.{◌≡◌};
-ghost use Rattle.model.specs.Reader.{is_group_line};
+ghost use Rattle.forms.specs.Forms.{group_line_in};
 
-pub fn is_group_line(line: &[u8]) -> bool
-    ensures { result ≡ is_group_line line.now }
+// What a group line says: a card is in a group.
+#[derive(Clone, Copy)]
+pub struct GroupLine {
+    pub group: u8,
+    pub card: u8,
+}
+
+pub fn group_line(line: &[u8]) -> Option<GroupLine>
+    ensures { result ≡ group_line_in line.now }
 {
-    let n = letters::number_width(line, 4);
-    let g = letters::group(ascii::byte(line, 2));
-    let numbered = (ascii::byte(line, 3) == b' ') & ((1 <= n) & (4 + n == line.len()));
-    (ascii::byte(line, 1) == b' ') & ((1 <= g) & numbered)
+    let group = letters::group(ascii::byte(line, 2))?;
+    let m = letters::number_at(line, 4)?;
+    let card = m.value;
+    ((ascii::byte(line, 1) == b' ')
+        & ((ascii::byte(line, 3) == b' ') & (4 + m.width == line.len()))).then_some(GroupLine {
+        group,
+        card,
+    })
 }

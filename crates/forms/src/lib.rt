@@ -7,8 +7,8 @@ mod groups;
 mod rules;
 
 pub use cards::{CardNumber, card_number, is_card_number};
-pub use groups::is_group_line;
-pub use rules::{RuleForm, rule_form};
+pub use groups::{GroupLine, group_line};
+pub use rules::{Condition, Head, Price, RuleForm, condition_at, price_at, rule_form};
 
 const LEAST_DIGITS: usize = limits::LEAST_DIGITS as usize;
 

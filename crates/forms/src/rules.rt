@@ -1,53 +1,81 @@
 // Rule lines: `R m K v`, then prices ` < w K y`, then conditions ` ? g z` or ` = z z`.
 ghost use Rattle.std.specs.Prelude.{◌≡◌, ◌+◌, ◌*◌, ◌≤◌};
 ghost use Rattle.model.specs.Limits.{price_limit, condition_limit};
-ghost use Rattle.model.specs.Reader.{price_width, condition_width, mark_at, has_price, has_condition, has_head, price_count, condition_count};
-ghost use Rattle.forms.specs.Forms.{longest, Formed};
+ghost use Rattle.model.specs.Reader.{price_width, condition_width, mark_at, price_count, condition_count};
+ghost use Rattle.forms.specs.Forms.{longest, price_in, condition_in, head_in, rule_form_in};
 
 use crate::{CONDITION_LIMIT, CONDITION_WIDTH, PRICE_LIMIT, PRICE_WIDTH};
-use letters::STAR;
 
 // The bytes of ` K v`.
 const HEAD_WIDTH: usize = 4;
 
-// Whether x follows a place, between two spaces.
-fn marked(line: &[u8], at: usize, x: u8) -> bool
-    requires { at ≤ longest }
-    ensures { result ≡ mark_at line.now at x }
-{
-    (ascii::byte(line, at) == b' ')
-        & ((ascii::byte(line, at + 1) == x) & (ascii::byte(line, at + 2) == b' '))
+// What a price says: the giver gives one token of the kind to the receiver, a name.
+#[derive(Clone, Copy)]
+pub struct Price {
+    pub giver: u8,
+    pub kind: u8,
+    pub receiver: u8,
 }
 
-// Whether a price is at a place: ` < w K y`, with w and y different.
-fn has_price(line: &[u8], at: usize) -> bool
-    requires { at ≤ longest }
-    ensures { result ≡ has_price line.now at }
-{
-    if line.len() < at + PRICE_WIDTH {
-        return false;
-    }
-    let w = letters::variable(ascii::byte(line, at + 3));
-    let k = letters::kind(ascii::byte(line, at + 5));
-    let y = letters::name(ascii::byte(line, at + 7));
-    let spaced = (ascii::byte(line, at + 4) == b' ') & (ascii::byte(line, at + 6) == b' ');
-    marked(line, at, b'<')
-        & ((w < limits::VARIABLE_COUNT) & ((1 <= k) & ((y <= STAR) & (!(w == y) & spaced))))
+// What a condition says: a name is in a group, or two names have the same issuer.
+#[derive(Clone, Copy)]
+pub enum Condition {
+    InGroup(u8, u8),
+    SameIssuer(u8, u8),
 }
 
-// Whether a condition is at a place: ` ? g z` or ` = z z`.
-fn has_condition(line: &[u8], at: usize) -> bool
-    requires { at ≤ longest }
-    ensures { result ≡ has_condition line.now at }
+// Whether a part of a line begins with x between two spaces.
+fn marked(part: &[u8], x: u8) -> bool
+    ensures { result ≡ mark_at part.now 0 x }
 {
-    if line.len() < at + CONDITION_WIDTH {
-        return false;
+    (ascii::byte(part, 0) == b' ') & ((ascii::byte(part, 1) == x) & (ascii::byte(part, 2) == b' '))
+}
+
+// The price that a part of a line begins with: ` < w K y`, with w and y different.
+fn first_price(part: &[u8]) -> Option<Price>
+    ensures { result ≡ price_in part.now 0 }
+{
+    let giver = letters::variable(ascii::byte(part, 3))?;
+    let kind = letters::kind(ascii::byte(part, 5))?;
+    let receiver = letters::name(ascii::byte(part, 7))?;
+    let spaced = (ascii::byte(part, 4) == b' ') & (ascii::byte(part, 6) == b' ');
+    (marked(part, b'<') & ((giver != receiver) & spaced)).then_some(Price {
+        giver,
+        kind,
+        receiver,
+    })
+}
+
+// The price at a place of a line.
+pub fn price_at(line: &[u8], at: usize) -> Option<Price>
+    ensures { result ≡ price_in line.now at }
+{
+    first_price(line.get(at..)?)
+}
+
+// The condition that a part of a line begins with: ` ? g z` or ` = z z`.
+fn first_condition(part: &[u8]) -> Option<Condition>
+    ensures { result ≡ condition_in part.now 0 }
+{
+    let x = ascii::byte(part, 3);
+    let z = letters::name(ascii::byte(part, 5))?;
+    if ascii::byte(part, 4) != b' ' {
+        return None;
     }
-    let x = ascii::byte(line, at + 3);
-    let member = marked(line, at, b'?') & (1 <= letters::group(x));
-    let alike = marked(line, at, b'=') & (letters::name(x) <= STAR);
-    let z = letters::name(ascii::byte(line, at + 5));
-    (member | alike) & ((ascii::byte(line, at + 4) == b' ') & (z <= STAR))
+    if marked(part, b'?') {
+        return Some(Condition::InGroup(letters::group(x)?, z));
+    }
+    if marked(part, b'=') {
+        return Some(Condition::SameIssuer(letters::name(x)?, z));
+    }
+    None
+}
+
+// The condition at a place of a line.
+pub fn condition_at(line: &[u8], at: usize) -> Option<Condition>
+    ensures { result ≡ condition_in line.now at }
+{
+    first_condition(line.get(at..)?)
 }
 
 // How many prices follow one another at a place, at most four; conditions likewise.
@@ -56,7 +84,7 @@ fn price_count(line: &[u8], at: usize) -> usize
     ensures { (result ≡ price_count line.now at) × (result ≤ price_limit) }
 {
     for i in 0..PRICE_LIMIT {
-        if !has_price(line, at + i * PRICE_WIDTH) {
+        if price_at(line, at + i * PRICE_WIDTH).is_none() {
             return i;
         }
     }
@@ -68,49 +96,61 @@ fn condition_count(line: &[u8], at: usize) -> usize
     ensures { (result ≡ condition_count line.now at) × (result ≤ condition_limit) }
 {
     for i in 0..CONDITION_LIMIT {
-        if !has_condition(line, at + i * CONDITION_WIDTH) {
+        if condition_at(line, at + i * CONDITION_WIDTH).is_none() {
             return i;
         }
     }
     CONDITION_LIMIT
 }
 
-// `R m K v`
-fn has_head(line: &[u8]) -> bool
-    ensures { result ≡ has_head line.now }
-{
-    let n = letters::number_width(line, 2);
-    let p = 2 + n;
-    let k = letters::kind(ascii::byte(line, p + 1));
-    let v = letters::variable(ascii::byte(line, p + 3));
-    let headed = (ascii::byte(line, p + 2) == b' ') & (v < limits::VARIABLE_COUNT);
-    (ascii::byte(line, 1) == b' ')
-        & ((1 <= n) & ((ascii::byte(line, p) == b' ') & ((1 <= k) & headed)))
+// What a rule's head says, `R m K v`: the owner gives one token of the kind to the receiver, a variable; and the place after it.
+#[derive(Clone, Copy)]
+pub struct Head {
+    pub owner: u8,
+    pub kind: u8,
+    pub receiver: u8,
+    pub end: usize,
 }
 
-// Whether a line is a rule line, where its prices begin and how many they are, and its conditions likewise.
+fn head_of(line: &[u8]) -> Option<Head>
+    ensures { result ≡ head_in line.now }
+{
+    let m = letters::number_at(line, 2)?;
+    let p = 2 + m.width;
+    let kind = letters::kind(ascii::byte(line, p + 1))?;
+    let receiver = letters::variable(ascii::byte(line, p + 3))?;
+    let spaced = (ascii::byte(line, p) == b' ') & (ascii::byte(line, p + 2) == b' ');
+    let owner = m.value;
+    let end = p + HEAD_WIDTH;
+    ((ascii::byte(line, 1) == b' ') & spaced).then_some(Head {
+        owner,
+        kind,
+        receiver,
+        end,
+    })
+}
+
+// A rule line's head, how many prices follow it, where its conditions begin and how many they are.
 #[derive(Clone, Copy)]
 pub struct RuleForm {
-    pub formed: bool,
-    pub body: usize,
+    pub head: Head,
     pub prices: usize,
     pub tail: usize,
     pub conditions: usize,
 }
 
-pub fn rule_form(line: &[u8]) -> RuleForm
-    ensures { Formed line.now result }
+pub fn rule_form(line: &[u8]) -> Option<RuleForm>
+    ensures { result ≡ rule_form_in line.now }
 {
-    let body = 2 + letters::number_width(line, 2) + HEAD_WIDTH;
-    let prices = price_count(line, body);
-    let tail = body + prices * PRICE_WIDTH;
+    let head = head_of(line)?;
+    let prices = price_count(line, head.end);
+    let tail = head.end + prices * PRICE_WIDTH;
     let conditions = condition_count(line, tail);
     let end = tail + conditions * CONDITION_WIDTH;
-    RuleForm {
-        formed: has_head(line) & (end == line.len()),
-        body,
+    (end == line.len()).then_some(RuleForm {
+        head,
         prices,
         tail,
         conditions,
-    }
+    })
 }

@@ -2,95 +2,80 @@
 
 #![tactic(auto)]
 
-ghost use Rattle.std.specs.Prelude.{◌≡◌, ◌+◌, ◌≤◌, get_or};
-ghost use Rattle.model.specs.Reader.{digit_of, kind_of, variable_of, name_of, group_of, width_of, number_of, number_width, number_at};
+ghost use Rattle.std.specs.Prelude.{◌≡◌, ◌≤◌, if◌then◌else◌, IfSome};
+ghost use Rattle.letters.specs.Letters.{kind_in, variable_in, name_in, group_in, number_in};
 
 // Kinds are numbered from 1.
 const BEFORE_A: u8 = b'A' - 1;
 
-// Variables are numbered from 0, and the name `*` is numbered after them.
+// Variables are numbered from 0, and the name `*` is numbered after them: a name is one byte of a rule's row.
 pub const STAR: u8 = limits::VARIABLE_COUNT;
 
-// What says that a byte is no variable, and no name.
-const NO_VARIABLE: u8 = 9;
-
-// 1 to 16, or 0.
-pub fn kind(x: u8) -> u8
-    ensures { result ≡ kind_of x }
+// 1 to 16.
+pub fn kind(x: u8) -> Option<u8>
+    ensures { result ≡ kind_in x }
 {
     match x {
-        b'A'..=b'P' => x - BEFORE_A,
-        _ => 0,
+        b'A'..=b'P' => Some(x - BEFORE_A),
+        _ => None,
     }
 }
 
-// 0 to 7, or NO_VARIABLE.
-pub fn variable(x: u8) -> u8
-    ensures { result ≡ variable_of x }
+// 0 to 7.
+pub fn variable(x: u8) -> Option<u8>
+    ensures { result ≡ variable_in x }
 {
     match x {
-        b'a'..=b'h' => x - b'a',
-        _ => NO_VARIABLE,
+        b'a'..=b'h' => Some(x - b'a'),
+        _ => None,
     }
 }
 
-// A variable's number, STAR, or NO_VARIABLE.
-pub fn name(x: u8) -> u8
-    ensures { result ≡ name_of x }
+// A variable's number, or STAR.
+pub fn name(x: u8) -> Option<u8>
+    ensures { result ≡ name_in x }
 {
     match x {
-        b'*' => STAR,
+        b'*' => Some(STAR),
         _ => variable(x),
     }
 }
 
-// 1 to 8, or 0.
-pub fn group(x: u8) -> u8
-    ensures { result ≡ group_of x }
+// 1 to 8.
+pub fn group(x: u8) -> Option<u8>
+    ensures { result ≡ group_in x }
 {
     match x {
-        b'1'..=b'8' => x - b'0',
-        _ => 0,
+        b'1'..=b'8' => Some(x - b'0'),
+        _ => None,
     }
 }
 
-// How many of the two digits d and e belong to m: 0 where there is no m.
-fn width(d: u8, e: u8) -> usize
-    ensures { (result ≡ width_of d e) × (result ≤ 2) }
+// The number m of a card, and how many bytes it has: 1 or 2.
+#[derive(Clone, Copy)]
+pub struct Number {
+    pub value: u8,
+    pub width: usize,
+}
+
+// The number m at a place of a line: 1 to 99, without a leading zero.
+pub fn number_at(line: &[u8], at: u8) -> Option<Number>
+    ensures read { result ≡ number_in line.now at }
+    ensures short { IfSome result (λ m. m.width ≤ 2) }
 {
-    match d {
-        1..=9 => { if e <= 9 { 2 } else { 1 } }
-        _ => 0,
+    let at = usize::from(at);
+    let first = ascii::digit(ascii::byte(line, at))?;
+    if first == 0 {
+        return None;
     }
-}
-
-fn number(d: u8, e: u8) -> u8
-    requires { d ≤ 10 }
-    ensures { result ≡ number_of d e }
-{
-    if e <= 9 { d * 10 + e } else { d }
-}
-
-// A digit's value at a place, or 10.
-fn digit_at(line: &[u8], at: usize) -> u8
-    ensures { (result ≡ digit_of (get_or line.now at 0)) × (result ≤ 10) }
-{
-    match ascii::digit(ascii::byte(line, at)) {
-        Some(d) => d,
-        None => 10,
-    }
-}
-
-// The bytes of m at a place: 1 or 2, or 0 where there is no m.
-pub fn number_width(line: &[u8], at: u8) -> usize
-    ensures { (result ≡ number_width line.now at) × (result ≤ 2) }
-{
-    width(digit_at(line, at as usize), digit_at(line, at as usize + 1))
-}
-
-// The number m at a place that has one.
-pub fn number_at(line: &[u8], at: u8) -> u8
-    ensures { result ≡ number_at line.now at }
-{
-    number(digit_at(line, at as usize), digit_at(line, at as usize + 1))
+    Some(match ascii::digit(ascii::byte(line, at + 1)) {
+        Some(second) => Number {
+            value: first * 10 + second,
+            width: 2,
+        },
+        None => Number {
+            value: first,
+            width: 1,
+        },
+    })
 }

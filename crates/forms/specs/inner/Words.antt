@@ -1,8 +1,10 @@
 -- What follows a card line's space.
-use Rattle.std.specs.Prelude.{false, cond, List, [], ℕ}
+use Rattle.std.specs.Prelude.{Option, Some, None, if◌then◌else◌, false, List, ℕ}
 use Rattle.model.specs.Reader.{in_printed_groups, printed_groups}
 use Rattle.model.specs.Opening.{card_digits}
+use Rattle.forms.specs.Numbers.{in_row}
+use Rattle.forms.specs.declared.cards.CardNumber.{CardNumber}
 
--- the digits of bytes in printed groups, and none of other bytes
-abbrev pub word_digits : List ℕ → List ℕ
-word_digits s = cond (in_printed_groups false s) (card_digits (printed_groups s)) []
+-- the number of bytes in printed groups
+abbrev pub word_number_in : List ℕ → Option CardNumber
+word_number_in s = if in_printed_groups false s then Some (in_row (card_digits (printed_groups s))) else None

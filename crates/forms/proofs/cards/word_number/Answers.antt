@@ -1,51 +1,39 @@
--- The bytes before i are digits and hyphens in their places, and the row has the digits among them, as far as it goes.
-use mathlib.Core.Path.{◌≡◌, sym, ◌∙◌, ap}
-use mathlib.Core.Bool.{false, not}
-use mathlib.Core.List.{List}
-use Prim.Native.Nat.{ℕ, ◌+◌}
-use borrow.Author.Tests.{eq-eqb, ne_eqb}
-use Rattle.model.specs.Reader.{in_printed_groups}
-use Rattle.forms.proofs.Digits.{misplaced, placed, all_placed, Taken, taken_none, taken_more, taken-size, taken_all}
+-- The bytes before the loop's place are digits and hyphens in their places, and the row has the digits among them, as far as it goes.
+use mathlib.Core.Path.{◌≡◌, sym, ◌∙◌}
+use mathlib.Core.Bool.{false}
+use lib.ListN.{get_or}
 use borrow.Author.Rules.{rules}
+use Rattle.std.proofs.lemmas.Option.{cond_some}
+use Rattle.model.specs.Reader.{is_digit}
+use Rattle.ascii.proofs.Options.{cond_none}
+use Rattle.forms.proofs.Parts.{chosen}
+use Rattle.forms.proofs.Digits.{misplaced, digit-placed, hyphen-placed, all_placed, taken_digit, taken_hyphen, taken_all}
 use Rattle.forms.proofs.cards.word_number.Goals as goal
-use Rattle.forms.proofs.cards.word_number.Goals.{After-put_digit-taken}
+use Rattle.forms.proofs.cards.word_number.Goals.{In_default}
 
-abbrev bytes : After-put_digit-taken → List ℕ
-bytes c = c.args.s.now
+-- a byte that is no digit
+other : (c : In_default) → is_digit (get_or c.args.s.now c.loop-x.x-index 0) ≡ false
+other c = cond_none _ _ (sym c.digit.ensures ∙ c.in_default.is)
 
--- what a turn leaves
-turn : (c : After-put_digit-taken) → Taken (bytes c) (c.loop-i.i + 1) (c.loop-i.count + c.put_digit-taken.result) c.put_digit-taken.new.digits
-turn c = taken_more c.loop-i.invariant.1 c.put_digit-taken.result c.put_digit-taken.new.digits (search rules) c.put_digit-taken.ensures.0 c.put_digit-taken.ensures.1
+pub loop-x-preserved-in-Some : goal.loop-x-preserved-in-Some
+loop-x-preserved-in-Some c =
+    let h = c.loop-x in
+    let (e, d) = cond_some _ _ _ (sym c.digit.ensures ∙ c.in-Some.is) in
+    (rw c.put_digit.ensures (taken_digit h.invariant.0 (search rules) e d), digit-placed c.args.s.now h.x-index h.after_digit h.invariant.1 (search rules) e)
 
--- ---- the goals
-pub loop-i-init : goal.loop-i-init
-loop-i-init c = (search rules, taken_none _, search rules, search rules)
+pub returns-then-after_digit-x : goal.returns-then-after_digit-x
+returns-then-after_digit-x c =
+    let h = c.loop-x in
+    let e = other (goal.at.returns-then-after_digit-x c).In_default in
+    rw (misplaced c.args.s.now h.x-index h.after_digit h.invariant.1 (search rules) e c.if-after_digit-x.true)
 
-pub put_digit-taken-requires : goal.put_digit-taken-requires
-put_digit-taken-requires c = taken-size c.loop-i.invariant.1
-
-pub returns-then-taken-before : goal.returns-then-taken-before
-returns-then-taken-before c =
-    let h = c.loop-i in
-    rw (misplaced (bytes (goal.at.returns-then-taken-before c).After-put_digit-taken) h.i h.before h.invariant.2 (search rules) c.put_digit-taken.ensures.0 c.if-taken-before.true) c.no_digits.ensures
-
-pub overflow_add-count : goal.overflow_add-count
-overflow_add-count c = let few = (turn (goal.at.overflow_add-count c).After-put_digit-taken).few in search rules
-
-pub loop-i-preserved : goal.loop-i-preserved
-loop-i-preserved c =
-    let h = c.loop-i in
-    (search rules, turn (goal.at.loop-i-preserved c).After-put_digit-taken, placed (bytes (goal.at.loop-i-preserved c).After-put_digit-taken) h.i h.before h.invariant.2 (search rules) c.put_digit-taken.ensures.0 c.if-taken-before.false, search rules)
-
-pub returns-then-before-eq0 : goal.returns-then-before-eq0
-returns-then-before-eq0 c =
-    let h = c.loop-i in
-    let s = c.args.s.now in
-    let none : in_printed_groups false s ≡ false = sym (all_placed s h.i h.before h.invariant.2 (search rules)) ∙ ap not (eq-eqb h.before 0 c.if-before-eq0.true) in
-    rw none c.no_digits-then-before-eq0.ensures
+pub loop-x-preserved : goal.loop-x-preserved
+loop-x-preserved c =
+    let h = c.loop-x in
+    let e = other (goal.at.loop-x-preserved c).In_default in
+    (taken_hyphen h.invariant.0 (search rules) e, hyphen-placed c.args.s.now h.x-index h.after_digit h.invariant.1 (search rules) e c.if-after_digit-x.false)
 
 pub returns : goal.returns
 returns c =
-    let h = c.loop-i in
-    let s = c.args.s.now in
-    taken_all h.invariant.1 (search rules) (sym (all_placed s h.i h.before h.invariant.2 (search rules)) ∙ ap not (ne_eqb h.before 0 c.if-before-eq0.false))
+    let h = c.loop-x in
+    c.then_some.ensures ∙ chosen _ _ ∙ taken_all h.invariant.0 (search rules) (all_placed c.args.s.now h.x-index h.after_digit h.invariant.1 (search rules))

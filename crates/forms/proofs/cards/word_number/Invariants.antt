@@ -1,16 +1,10 @@
--- The bytes before i are digits and hyphens in their places, and the row has the digits among them, as far as it goes.
+-- The bytes before the loop's place are digits and hyphens in their places, and the row has the digits among them, as far as it goes.
 use mathlib.Core.Path.{◌≡◌}
-use mathlib.Core.Bool.{false, not}
-use Prim.Native.Nat.{◌-◌, ◌≤◌}
-use lib.Dec.{eqb}
-use lib.ListN.{length, drop}
+use mathlib.Core.Bool.{false}
+use lib.ListN.{drop}
 use Rattle.model.specs.Reader.{in_printed_groups}
 use Rattle.forms.proofs.Digits.{Taken}
 use Rattle.forms.proofs.cards.word_number.Given as goal
 
-abbrev pub invariant-loop-i : goal.invariant-loop-i
-invariant-loop-i l =
-    (l.i ≤ length l.s) × Taken l.s l.i l.count l.digits × (in_printed_groups (not (eqb l.before 0)) (drop l.i l.s) ≡ in_printed_groups false l.s) × (l.i-end ≡ length l.s)
-
-abbrev pub decreases-loop-i : goal.decreases-loop-i
-decreases-loop-i l = length l.s - l.i
+abbrev pub invariant-loop-x : goal.invariant-loop-x
+invariant-loop-x l = Taken l.s l.x-index l.count l.digits × (in_printed_groups l.after_digit (drop l.x-index l.s) ≡ in_printed_groups false l.s)

@@ -4,24 +4,25 @@ use mathlib.Core.Path.{◌≡◌, refl, sym}
 use Prim.Native.Nat.{◌+◌, ◌*◌}
 use native.Mathlib.Omega.{arith}
 use Rattle.model.specs.Reader.{has_price, leading, price_count}
+use Rattle.forms.proofs.Parts.{there}
 use Rattle.forms.proofs.Counts.{Counting, counted, one_more}
 use borrow.Author.Rules.{rules}
 use Rattle.forms.proofs.rules.price_count.Goals as goal
-use Rattle.forms.proofs.rules.price_count.Goals.{After-has_price}
+use Rattle.forms.proofs.rules.price_count.Goals.{After-is_none}
 
 pub loop-i-init : goal.loop-i-init
 unfolding leading
 loop-i-init c = (search rules, refl)
 
-turn : (c : After-has_price) → Counting (λ j. has_price c.args.line.now (c.args.at + j * 8)) c.loop-i.i 4 c.has_price.result
-turn c = record { passed = c.loop-i.invariant.1; within = search rules; tested = c.has_price.ensures }
+turn : (c : After-is_none) → Counting (λ j. has_price c.args.line.now (c.args.at + j * 8)) c.loop-i.i 4 (not c.is_none.result)
+turn c = record { passed = c.loop-i.invariant.1; within = search rules; tested = rw (← c.is_none.ensures, c.price_at.ensures) (there _ _) }
 
-pub returns-then-not-has_price : goal.returns-then-not-has_price
+pub returns-then-is_none : goal.returns-then-is_none
 unfolding price_count
-returns-then-not-has_price c = (counted (turn (goal.at.returns-then-not-has_price c).After-has_price) (ap not c.if-not-has_price.true), search rules)
+returns-then-is_none c = (counted (turn (goal.at.returns-then-is_none c).After-is_none) (ap not (ap not c.if-is_none.true)), search rules)
 
 pub loop-i-preserved : goal.loop-i-preserved
-loop-i-preserved c = (search rules, one_more (turn (goal.at.loop-i-preserved c).After-has_price) (ap not c.if-not-has_price.false))
+loop-i-preserved c = (search rules, one_more (turn (goal.at.loop-i-preserved c).After-is_none) (ap not (ap not c.if-is_none.false)))
 
 pub returns : goal.returns
 unfolding price_count
