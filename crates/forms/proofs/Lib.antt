@@ -1,4 +1,4 @@
-pub mod Counts
 pub mod Digits
-pub mod Short
 pub mod Parts
+mod Counts
+mod Short

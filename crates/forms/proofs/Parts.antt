@@ -102,7 +102,7 @@ module _ (w : List ℕ) (p : ℕ) where
   no_space e = rw (e, and-false_right ((asked && G) || (alike && Y)))
 
   -- the byte after the first space
-  sign : (x : ℕ) → mark_at w p x ≡ true → get_or w (p + 1) 0 ≡ x
+  pub sign : (x : ℕ) → mark_at w p x ≡ true → get_or w (p + 1) 0 ≡ x
   unfolding mark_at
   sign x e =
       let a = both_true (space_at w p) (eqb (get_or w (p + 1) 0) x && space_at w (p + 2)) e in
@@ -144,6 +144,10 @@ module _ (w : List ℕ) (p : ℕ) where
 
 -- ---- a group line
 
+and_assoc : (a b c : Bool) → ((a && b) && c) ≡ (a && (b && c))
+and_assoc true b c = refl
+and_assoc false b c = refl
+
 and-true_right : (a : Bool) → (a && true) ≡ a
 and-true_right true = refl
 and-true_right false = refl
@@ -160,9 +164,10 @@ module _ (w : List ℕ) where
   pub group_line_is : {g : ℕ} {m : Number} (a b : Bool) → (leb 1 (group_of (get_or w 2 0)) ≡ true) × (group_of (get_or w 2 0) ≡ g)
       → (leb 1 (number_width w 4) ≡ true) × (◌≡◌ {A = Number} (record { value = number_at w 4; width = number_width w 4 }) m)
       → a ≡ space_at w 1 → b ≡ space_at w 3
-      → (if a && (b && eqb (4 + m.width) (length w)) then Some (record { group = g; card = m.value }) else None) ≡ group_line_in w
+      → (if (a && b) && eqb (4 + m.width) (length w) then Some (record { group = g; card = m.value }) else None) ≡ group_line_in w
   unfolding is_group_line
-  group_line_is a b (p, g) (q, m) x y = rw (← m, ← g, x, y, p, q)
+  group_line_is a b (p, g) (q, m) x y =
+      rw (← m, ← g, x, y, p, q, and_assoc (space_at w 1) (space_at w 3) (eqb (4 + number_width w 4) (length w)))
 
   -- ---- a rule line's head
 
@@ -207,6 +212,9 @@ module _ (w : List ℕ) where
       go true true = omega arith
       go true false = omega arith
       go false b = omega arith
+
+  pub end_short : head_end w ≤ 8
+  end_short = omega (arith, width-short)
 
   -- a rule line's head, by its answer
   pub headed : {h : Head} → head_in w ≡ Some h → (has_head w ≡ true) × (h.end ≡ head_end w) × (h.end ≤ 8)

@@ -14,10 +14,8 @@ pub fn group_line(line: &[u8]) -> Option<GroupLine>
 {
     let group = letters::group(ascii::byte(line, 2))?;
     let m = letters::number_at(line, 4)?;
+    let spaced = (ascii::byte(line, 1) == b' ') & (ascii::byte(line, 3) == b' ');
+    let ended = 4 + m.width == line.len();
     let card = m.value;
-    ((ascii::byte(line, 1) == b' ')
-        & ((ascii::byte(line, 3) == b' ') & (4 + m.width == line.len()))).then_some(GroupLine {
-        group,
-        card,
-    })
+    (spaced & ended).then_some(GroupLine { group, card })
 }

@@ -3,6 +3,7 @@ pub mod Written
 pub mod Parts
 pub mod Known
 pub mod Rows
+pub mod Entries
 pub mod Grown
 pub mod Forms
 pub mod Lines

@@ -39,11 +39,9 @@ fn is_known(number: CardNumber, cards: &CardTable) -> bool
 pub(crate) fn take(line: &[u8], cards: &mut CardTable) -> Result<(), Reason>
     ensures { CardTaken line.now cards.old result cards.new }
 {
-    let number = forms::card_number(line);
-    // A line that has the form has a digit.
-    if number.count == 0 {
+    let Some(number) = forms::card_number(line) else {
         return Err(Reason::NoForm);
-    }
+    };
     if limits::CARD_LIMIT <= layout::card_count(cards) {
         return Err(Reason::TooManyCards);
     }

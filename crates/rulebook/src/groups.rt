@@ -11,13 +11,12 @@ use answers::Reason;
 pub(crate) fn take(line: &[u8], cards: &mut CardTable) -> Result<(), Reason>
     ensures { GroupTaken line.now cards.old result cards.new }
 {
-    if !forms::is_group_line(line) {
+    let Some(said) = forms::group_line(line) else {
         return Err(Reason::NoForm);
-    }
-    let m = letters::number_at(line, 4);
-    if layout::card_count(cards) < m {
+    };
+    if layout::card_count(cards) < said.card {
         return Err(Reason::CardNotAbove);
     }
-    layout::add_member(cards, letters::group(ascii::byte(line, 2)), m);
+    layout::add_member(cards, said.group, said.card);
     Ok(())
 }

@@ -2,6 +2,10 @@
 use Rattle.std.specs.Prelude.{cond, List, ℕ, zero, suc, ◌+◌, ◌*◌, eqb, get_or, replicate}
 use Prim.Native.Char.{code}
 use Rattle.model.specs.Reader.{kind_of, variable_of, name_of, group_of, number_at, owner_end, head_end, prices_end, price_count, condition_count, price_width, condition_width}
+use Rattle.forms.specs.Forms.{form_read}
+use Rattle.forms.specs.declared.rules.Condition.{Condition}
+use Rattle.forms.specs.declared.rules.Condition.TheVariants.{InGroup, SameIssuer}
+use Rattle.forms.specs.declared.rules.RuleForm.{RuleForm}
 use Rattle.rulebook.specs.Layout.{rule_row_size}
 use Rattle.rulebook.specs.inner.Writes.{with_head, with_price, with_condition}
 
@@ -9,10 +13,18 @@ use Rattle.rulebook.specs.inner.Writes.{with_head, with_price, with_condition}
 unfoldable pub marked_group : ℕ → ℕ → ℕ
 marked_group x g = cond (eqb x (code "?")) (group_of g) 0
 
+-- what a row has for the first name of a condition that has a group
+abbrev pub no_name : ℕ
+no_name = 9
+
+-- a condition as entry i
+abbrev pub with_entry : ℕ → Condition → List ℕ → List ℕ
+with_entry i (InGroup group name) row = with_condition i group no_name name row
+with_entry i (SameIssuer first second) row = with_condition i 0 first second row
+
 -- owner, kind, head and the two counts
-abbrev pub head_cells : List ℕ → ℕ → ℕ → List ℕ → List ℕ
-head_cells w prices conditions row =
-    with_head (number_at w 2) (kind_of (get_or w (owner_end w + 1) 0)) (variable_of (get_or w (owner_end w + 3) 0)) prices conditions row
+abbrev pub head_cells : RuleForm → List ℕ → List ℕ
+head_cells form row = with_head form.head.owner form.head.kind form.head.receiver form.prices form.conditions row
 
 -- the price, and the condition, at the line's place p, as entry i
 abbrev pub price_cell : List ℕ → ℕ → ℕ → List ℕ → List ℕ
@@ -34,5 +46,4 @@ unfoldable pub row_of : List ℕ → List ℕ
 row_of w =
     condition_cells w (prices_end w) (condition_count w (prices_end w))
     (price_cells w (head_end w) (price_count w (head_end w))
-    (head_cells w (price_count w (head_end w)) (condition_count w (prices_end w))
-    (replicate rule_row_size 0)))
+    (head_cells (form_read w) (replicate rule_row_size 0)))
