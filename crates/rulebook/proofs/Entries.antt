@@ -10,7 +10,7 @@ use lib.Dec.{eqb, leb}
 use lib.ListN.{get_or}
 use borrow.Author.Tests.{eq-eqb, ne_eqb, lt-leb, leb-true}
 use Rattle.std.specs.Prelude.{Some}
-use Rattle.model.specs.Reader.{name_of, variable_of, group_of, is_name_number, mark_at, space_at, has_price, has_condition, price_count, condition_count}
+use Rattle.model.specs.Reader.{name_of, variable_of, group_of, mark_at, space_at, has_price, has_condition, price_count, condition_count}
 use Rattle.model.proofs.Tests.{both_true, either_true}
 use Rattle.model.proofs.Places.{leading-true, leading_le}
 use Rattle.forms.specs.Forms.{price_read, price_in, condition_read, condition_in}

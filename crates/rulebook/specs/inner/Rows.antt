@@ -1,7 +1,7 @@
 -- The row of a rule line, part by part.
 use Rattle.std.specs.Prelude.{cond, List, ℕ, zero, suc, ◌+◌, ◌*◌, eqb, get_or, replicate}
 use Prim.Native.Char.{code}
-use Rattle.model.specs.Reader.{kind_of, variable_of, name_of, group_of, number_at, owner_end, head_end, prices_end, price_count, condition_count, price_width, condition_width}
+use Rattle.model.specs.Reader.{kind_of, variable_of, name_of, group_of, head_end, prices_end, price_count, condition_count, price_width, condition_width}
 use Rattle.forms.specs.Forms.{form_read}
 use Rattle.forms.specs.declared.rules.Condition.{Condition}
 use Rattle.forms.specs.declared.rules.Condition.TheVariants.{InGroup, SameIssuer}
