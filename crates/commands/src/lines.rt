@@ -1,5 +1,5 @@
 // A command line by its first letter; its words are one space apart.
-ghost use Rattle.std.specs.Prelude.{◌≡◌, ℕ};
+ghost use Rattle.std.specs.Prelude.{◌≡◌, ◌==◌, ℕ, position};
 ghost use Rattle.model.specs.Calls.{Call};
 ghost use Rattle.commands.specs.Reader.{first_word, first_number, read_three, read_two, read_settle, read_command};
 ghost use Rattle.commands.specs.View.{read_as, command_of};
@@ -7,15 +7,19 @@ ghost use Rattle.commands.specs.inner.Parts.{split_of, numbered_of, call_of_thre
 
 use crate::{Command, hexadecimal, numbers};
 
+// A word is a few bytes, which `ascii::find` would not pass faster.
+fn first_space(text: &[u8]) -> Option<usize>
+    ensures { result ≡ position (λ x. x == 32) text.now }
+{
+    text.iter().position(|x| *x == b' ')
+}
+
 // What comes before the first space, and after it.
-#[tactic(auto, unfolding(crate::specs::Reader::first_word))]
+#[tactic(auto, using(crate::proofs::Words::word_found, ascii::proofs::Places::missed), unfolding(crate::specs::Reader::first_word))]
 fn first_word(text: &[u8]) -> Option<(&[u8], &[u8])>
     ensures { read_as split_of result ≡ first_word text.now }
 {
-    let end = ascii::find(text, 0, b' ');
-    if end == text.len() {
-        return None;
-    }
+    let end = first_space(text)?;
     Some((&text[..end], &text[end + 1..]))
 }
 

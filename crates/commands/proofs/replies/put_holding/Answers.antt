@@ -1,19 +1,12 @@
--- A number has at most ten digits, so the buffer has room for it.
-use mathlib.Core.Path.{refl}
-use native.Mathlib.Omega.{arith}
+use Rattle.std.proofs.Common.{arith}
+use borrow.Author.Rules.{rules}
 use Rattle.model.specs.Lists.{ascii}
+use Rattle.model.specs.Grammar.{decimal}
 use Rattle.commands.proofs.Decimals.{ten_digits}
-use Rattle.commands.proofs.Buffers.{put_two}
+use Rattle.commands.proofs.Buffers.{put_then, printed, two_words}
 use Rattle.commands.proofs.replies.put_holding.Goals as goal
 
-pub put_number-end-requires : goal.put_number-end-requires
-put_number-end-requires c = omega (arith, ten_digits)
-
-pub bounds-out-end : goal.bounds-out-end
-bounds-out-end c = omega (arith, ten_digits)
-
-pub overflow_add-result : goal.overflow_add-result
-overflow_add-result c = omega (arith, ten_digits)
-
 pub returns : goal.returns
-returns c = (put_two {a = ascii "="} {m = 1} (record { put = refl; ends = refl }) c.put_number-end.ensures, omega (arith, ten_digits))
+returns c =
+    let text = put_then (put_then c.put.ensures.put c.put_number.ensures.put) c.put-2.ensures.put in
+    rw (← two_words (ascii "=") (decimal c.args.held)) (printed c.new-answer.ensures.begun text (search rules) (omega (arith, ten_digits)))
