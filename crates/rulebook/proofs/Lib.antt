@@ -3,9 +3,9 @@ pub mod Written
 pub mod Parts
 pub mod Known
 pub mod Rows
-pub mod Entries
 pub mod Grown
 pub mod Forms
+pub mod Entries
 pub mod Lines
 pub mod Texts
 pub mod Exists

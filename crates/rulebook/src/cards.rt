@@ -39,9 +39,7 @@ fn is_known(number: CardNumber, cards: &CardTable) -> bool
 pub(crate) fn take(line: &[u8], cards: &mut CardTable) -> Result<(), Reason>
     ensures { CardTaken line.now cards.old result cards.new }
 {
-    let Some(number) = forms::card_number(line) else {
-        return Err(Reason::NoForm);
-    };
+    let number = forms::card_number(line).ok_or(Reason::NoForm)?;
     if limits::CARD_LIMIT <= layout::card_count(cards) {
         return Err(Reason::TooManyCards);
     }

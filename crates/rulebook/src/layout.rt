@@ -11,7 +11,7 @@ ghost use Rattle.rulebook.specs.View.{row_owner, row_kind, row_head, row_price_c
 ghost use Rattle.rulebook.specs.View.{price_giver, price_kind, price_receiver, group_asked, first_name, second_name};
 ghost use Rattle.rulebook.specs.inner.Writes.{CardAdded, MemberAdded, RuleAdded, with_head, with_price, with_condition};
 
-use forms::CardNumber;
+use forms::{CardNumber, Condition, Price, RuleForm};
 
 // Where row 0 of either table has its count.
 const COUNT: usize = 0;
@@ -201,29 +201,34 @@ pub fn second_name(row: &[u8], i: u8) -> u8
 
 // ---- a rule's row written
 
-pub(crate) fn put_head(row: &mut RuleRow, owner: u8, kind: u8, head: u8, prices: u8, conditions: u8)
-    ensures { row.new ≡ with_head owner kind head prices conditions row.old }
+pub(crate) fn put_head(row: &mut RuleRow, form: RuleForm)
+    requires { (form.prices ≤ price_limit) × (form.conditions ≤ condition_limit) }
+    ensures { row.new ≡ with_head form row.old }
 {
-    row[OWNER] = owner;
-    row[KIND] = kind;
-    row[HEAD] = head;
-    row[PRICE_COUNT] = prices;
-    row[CONDITION_COUNT] = conditions;
+    row[OWNER] = form.head.owner;
+    row[KIND] = form.head.kind;
+    row[HEAD] = form.head.receiver;
+    row[PRICE_COUNT] = form.prices as u8;
+    row[CONDITION_COUNT] = form.conditions as u8;
 }
 
-pub(crate) fn put_price(row: &mut RuleRow, i: usize, giver: u8, kind: u8, receiver: u8)
+pub(crate) fn put_price(row: &mut RuleRow, i: usize, price: Price)
     requires { i < price_limit }
-    ensures { row.new ≡ with_price i giver kind receiver row.old }
+    ensures { row.new ≡ with_price i price row.old }
 {
-    row[PRICE_GIVER + i * ENTRY_SIZE] = giver;
-    row[PRICE_KIND + i * ENTRY_SIZE] = kind;
-    row[PRICE_RECEIVER + i * ENTRY_SIZE] = receiver;
+    row[PRICE_GIVER + i * ENTRY_SIZE] = price.giver;
+    row[PRICE_KIND + i * ENTRY_SIZE] = price.kind;
+    row[PRICE_RECEIVER + i * ENTRY_SIZE] = price.receiver;
 }
 
-pub(crate) fn put_condition(row: &mut RuleRow, i: usize, group: u8, first: u8, second: u8)
+pub(crate) fn put_condition(row: &mut RuleRow, i: usize, condition: Condition)
     requires { i < condition_limit }
-    ensures { row.new ≡ with_condition i group first second row.old }
+    ensures { row.new ≡ with_condition i condition row.old }
 {
+    let (group, first, second) = match condition {
+        Condition::InGroup(group, name) => (group, 0, name),
+        Condition::SameIssuer(first, second) => (0, first, second),
+    };
     row[GROUP_ASKED + i * ENTRY_SIZE] = group;
     row[FIRST_NAME + i * ENTRY_SIZE] = first;
     row[SECOND_NAME + i * ENTRY_SIZE] = second;

@@ -1,23 +1,22 @@
 -- The loop has put the conditions before i.
 use mathlib.Core.Path.{◌≡◌, refl, sym, ◌∙◌}
-use Prim.Native.Nat.{◌<◌, ◌+◌, ◌*◌}
+use Prim.Native.Nat.{◌<◌}
 use native.Mathlib.Omega.{arith}
 use native.Mathlib.Numerals.{add-one}
 use Rattle.std.proofs.lemmas.Option.{same_Some}
 use Rattle.model.specs.Reader.{condition_count}
 use Rattle.rulebook.specs.inner.Rows.{condition_cells}
-use Rattle.rulebook.proofs.Entries.{conditions_few, condition_there, has, entry_is}
-use borrow.Author.Rules.{rules}
+use Rattle.rulebook.proofs.Entries.{conditions_few, condition_there}
 use Rattle.rulebook.proofs.rules.put_conditions.Goals as goal
 use Rattle.rulebook.proofs.rules.put_conditions.Goals.{In-loop-i}
-
-pub loop-i-init : goal.loop-i-init
-unfolding condition_cells
-loop-i-init c = (search rules, refl, search rules)
 
 -- the place is one of the counted ones
 within : (c : In-loop-i) → (c.loop-i.i < 4) × (c.loop-i.i < condition_count c.args.line.now c.args.at)
 within c = let few = conditions_few c.args.line.now c.args.at in (omega (arith, c.requires.1, c.loop-i-test.true), omega (arith, c.requires.1, c.loop-i-test.true))
+
+pub loop-i-init : goal.loop-i-init
+unfolding condition_cells
+loop-i-init c = refl
 
 pub overflow_mul-i : goal.overflow_mul-i
 overflow_mul-i c = let few = within (goal.at.overflow_mul-i c).In-loop-i in omega arith
@@ -38,10 +37,9 @@ loop-i-preserved c =
     let h = c.loop-i in
     let there = condition_there c.args.line.now c.args.at h.i (within (goal.at.loop-i-preserved c).In-loop-i).1 in
     let condition = same_Some _ _ (sym there ∙ sym c.condition_at.ensures ∙ c.unwrap-condition.ensures) in
-    let entry = entry_is c.args.line.now (c.args.at + h.i * 6) (has c.args.line.now c.args.at h.i (within (goal.at.loop-i-preserved c).In-loop-i).1) h.i h.row in
-    (search rules, rw (add-one h.i, c.put_condition.ensures, ← condition) (entry ∙ rw h.invariant.1), c.put_condition.array_long)
+    rw (add-one h.i, c.put_condition.ensures, ← condition, h.invariant)
 
 pub returns : goal.returns
 returns c =
     let all : c.loop-i.i ≡ c.args.n = omega arith in
-    rw all at c.loop-i.invariant.1
+    rw all at c.loop-i.invariant

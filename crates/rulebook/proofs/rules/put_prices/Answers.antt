@@ -7,17 +7,16 @@ use Rattle.std.proofs.lemmas.Option.{same_Some}
 use Rattle.model.specs.Reader.{price_count}
 use Rattle.rulebook.specs.inner.Rows.{price_cells}
 use Rattle.rulebook.proofs.Entries.{prices_few, price_there}
-use borrow.Author.Rules.{rules}
 use Rattle.rulebook.proofs.rules.put_prices.Goals as goal
 use Rattle.rulebook.proofs.rules.put_prices.Goals.{In-loop-i}
-
-pub loop-i-init : goal.loop-i-init
-unfolding price_cells
-loop-i-init c = (search rules, refl, search rules)
 
 -- the place is one of the counted ones
 within : (c : In-loop-i) → (c.loop-i.i < 4) × (c.loop-i.i < price_count c.args.line.now c.args.at)
 within c = let few = prices_few c.args.line.now c.args.at in (omega (arith, c.requires.1, c.loop-i-test.true), omega (arith, c.requires.1, c.loop-i-test.true))
+
+pub loop-i-init : goal.loop-i-init
+unfolding price_cells
+loop-i-init c = refl
 
 pub overflow_mul-i : goal.overflow_mul-i
 overflow_mul-i c = let few = within (goal.at.overflow_mul-i c).In-loop-i in omega arith
@@ -38,9 +37,9 @@ loop-i-preserved c =
     let h = c.loop-i in
     let there = price_there c.args.line.now c.args.at h.i (within (goal.at.loop-i-preserved c).In-loop-i).1 in
     let price = same_Some _ _ (sym there ∙ sym c.price_at.ensures ∙ c.unwrap-price.ensures) in
-    (search rules, rw (add-one h.i, c.put_price.ensures, ← price, h.invariant.1), c.put_price.array_long)
+    rw (add-one h.i, c.put_price.ensures, ← price, h.invariant)
 
 pub returns : goal.returns
 returns c =
     let all : c.loop-i.i ≡ c.args.n = omega arith in
-    rw all at c.loop-i.invariant.1
+    rw all at c.loop-i.invariant
