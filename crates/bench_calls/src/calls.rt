@@ -10,10 +10,6 @@ pub(crate) fn after(engine: &mut Engine, called: Called) -> Reply {
     called.reply
 }
 
-fn is_accepted(reply: Reply) -> bool {
-    !matches!(reply, Reply::Refused(..))
-}
-
 // How many of the calls were not refused. They are a function of their own, so that their engines lie apart from all else.
 #[inline(never)]
 pub(crate) fn repeat<F: FnMut(&mut Engine) -> Reply>(
@@ -26,7 +22,7 @@ pub(crate) fn repeat<F: FnMut(&mut Engine) -> Reply>(
 {
     let mut count = 0;
     for i in 0..times {
-        count += u32::from(is_accepted(call(engine)));
+        count += u32::from(call(engine).is_ok());
     }
     count
 }

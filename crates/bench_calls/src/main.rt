@@ -7,11 +7,10 @@
 
 mod calls;
 
-ghost use Rattle.commands.specs.View.{LiesIn};
-
-use answers::Reply;
+use accounts::Account;
+use answers::Told;
 use calls::{after, repeat};
-use commands::{Command, Words};
+use commands::Command;
 use engine::Engine;
 use std::io;
 
@@ -19,41 +18,39 @@ const REPEATS: u32 = 100_000;
 
 fn perform(engine: &mut Engine, line: &[u8], times: u32) -> u32 {
     match commands::read(line) {
-        Command::Issue(card, kind, count) => repeat(engine, times, |next| {
-            after(next, engine::issue(*next, card, kind, count))
+        Some(Command::Issue { card, kind, count }) => repeat(engine, times, |next| {
+            after(next, engine::issue(*next, Account { card, kind }, count))
         }),
-        Command::Redeem(card, kind, count) => repeat(engine, times, |next| {
-            after(next, engine::redeem(*next, card, kind, count))
+        Some(Command::Redeem { card, kind, count }) => repeat(engine, times, |next| {
+            after(next, engine::redeem(*next, Account { card, kind }, count))
         }),
-        Command::Query(card, kind) => ask(engine, card, kind, times),
-        Command::Settle(words) => settle(engine, line, words, times),
-        Command::Bad => 0,
+        Some(Command::Query { card, kind }) => ask(engine, Account { card, kind }, times),
+        Some(Command::Settle { exchange, proof }) => settle(engine, exchange, proof, times),
+        None => 0,
     }
 }
 
 // What a query tells is the kind that is asked next, so that the compiler cannot leave a query out.
-fn ask(engine: &mut Engine, card: u32, first: u32, times: u32) -> u32 {
-    let mut kind = first;
+fn ask(engine: &mut Engine, first: Account, times: u32) -> u32 {
+    let mut account = first;
     repeat(engine, times, |next| {
-        let reply = after(next, engine::holding(*next, card, kind));
-        kind = match reply {
-            Reply::Holding(held) => held,
+        let reply = after(next, engine::holding(*next, account));
+        account.kind = match reply {
+            Ok(Told::Holding(held)) => held,
             _ => 0,
         };
         reply
     })
 }
 
-// A settlement of a line's two words, each as far as there is room for its bytes.
-fn settle(engine: &mut Engine, line: &[u8], words: Words, times: u32) -> u32
-    requires { LiesIn line.now words.exchange × LiesIn line.now words.proof }
-{
-    let mut exchange = [0; 4096];
-    let n = commands::unhex(&line[words.exchange.from..words.exchange.to], &mut exchange);
-    let mut proof = [0; 4096];
-    let m = commands::unhex(&line[words.proof.from..words.proof.to], &mut proof);
-    let exchange = &exchange[..n];
-    let proof = &proof[..m];
+// A settlement of two words of hexadecimal, each as far as there is room for its bytes.
+fn settle(engine: &mut Engine, exchange: &[u8], proof: &[u8], times: u32) -> u32 {
+    let mut exchange_bytes = [0; 4096];
+    let n = commands::unhex(exchange, &mut exchange_bytes);
+    let mut proof_bytes = [0; 4096];
+    let m = commands::unhex(proof, &mut proof_bytes);
+    let exchange = &exchange_bytes[..n];
+    let proof = &proof_bytes[..m];
     repeat(engine, times, |next| {
         after(next, engine::settle(*next, exchange, proof))
     })

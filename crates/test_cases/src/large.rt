@@ -2,13 +2,14 @@
 ghost use Rattle.std.specs.Prelude.{◌≤◌};
 
 use crate::{free, tell};
+use accounts::Account;
 use engine::Engine;
 use std::io;
 
 // Two cards, and a rule that asks nothing; card 1 holds so many tokens.
 fn open(count: u32) -> Engine {
     let opened = engine::open(b"C 700012000019\nC 700012000027\nR 1 A a\n");
-    engine::issue(opened.engine, 1, 1, count).engine
+    engine::issue(opened.engine, Account { card: 1, kind: 1 }, count).engine
 }
 
 // So many transfers with so many records of the proof for 32, while card 1 holds so many tokens.

@@ -1,5 +1,6 @@
 // 01's ring: settled, then with one smallest damage for each refusal.
 use crate::tell;
+use accounts::Account;
 use engine::Engine;
 use std::io;
 
@@ -12,9 +13,19 @@ const PROOF: [u8; 36] = *b"\x02\x01\x01\0\x02\x03\0\0\0\0\0\0\
 
 // An engine whose cards hold what the ring asks of them.
 fn holding_engine() -> Engine {
-    let a = engine::issue(tell::open(), 1, 1, 2);
-    let b = engine::issue(a.engine, 2, 2, 1);
-    engine::issue(b.engine, 3, 3, 1).engine
+    [(1, 1, 2), (2, 2, 1), (3, 3, 1)]
+        .iter()
+        .fold(tell::open(), |next, (card, kind, count)| {
+            engine::issue(
+                next,
+                Account {
+                    card: *card,
+                    kind: *kind,
+                },
+                *count,
+            )
+            .engine
+        })
 }
 
 // The ring's settlement.

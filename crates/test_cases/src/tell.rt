@@ -1,4 +1,5 @@
 // What calls answer, printed after their labels as the programs print it.
+use accounts::Account;
 use answers::Reply;
 use commands::Command;
 use engine::{Called, Engine};
@@ -36,9 +37,16 @@ pub(crate) fn settle(
 // The call of a command line, if it is one on an account.
 fn call(engine: Engine, line: &str) -> Option<Called> {
     match commands::read(line.as_bytes()) {
-        Command::Issue(card, kind, count) => Some(engine::issue(engine, card, kind, count)),
-        Command::Redeem(card, kind, count) => Some(engine::redeem(engine, card, kind, count)),
-        Command::Query(card, kind) => Some(engine::holding(engine, card, kind)),
+        Some(Command::Issue { card, kind, count }) => {
+            Some(engine::issue(engine, Account { card, kind }, count))
+        }
+        Some(Command::Redeem { card, kind, count }) => {
+            Some(engine::redeem(engine, Account { card, kind }, count))
+        }
+        Some(Command::Query { card, kind }) => Some(engine::holding(
+            engine,
+            Account { card, kind },
+        )),
         _ => None,
     }
 }

@@ -2,7 +2,7 @@
 ghost use Rattle.std.specs.Prelude.{◌≤◌};
 
 use crate::fairness::{self, Exchange, Transfer};
-use answers::Reply;
+use accounts::Account;
 use engine::Engine;
 use std::alloc::{AllocError, Global};
 
@@ -35,7 +35,7 @@ fn book() -> Engine {
 fn enough(engine: Engine, kind: u32) -> Engine {
     (1..=3).fold(
         engine,
-        |next, card| engine::issue(next, card, kind, 3).engine,
+        |next, card| engine::issue(next, Account { card, kind }, 3).engine,
     )
 }
 
@@ -67,10 +67,7 @@ impl Question {
         let exchange = self.exchange[..self.count].as_flattened();
         let records = proof[..self.count].as_flattened();
         let called = engine::settle(self.engine, exchange, records);
-        match called.reply {
-            Reply::Refused(number, place) => Some(place),
-            _ => None,
-        }
+        called.reply.err().map(|refusal| refusal.place)
     }
 
     // Whether some choice of the record with this index and of the later ones settles the exchange.
