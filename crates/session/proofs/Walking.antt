@@ -1,29 +1,35 @@
--- A block walked from LF to LF: the line that was begun before it, the lines in it, and the part that has no LF.
-use mathlib.Core.Path.{◌≡◌, refl, sym, ◌∙◌, ap}
+-- A block walked from LF to LF: what it prints is what has been printed and what its rest prints.
+use mathlib.Core.Path.{◌≡◌, refl, sym, ◌∙◌, ap, ap₂, subst}
 use mathlib.Core.Bool.{Bool, true, false, cond}
-use mathlib.Core.List.{List, [], ◌∷◌, ◌++◌, append-nil}
+use mathlib.Core.List.{List, [], ◌∷◌, ◌++◌, append_assoc, append-nil}
+use mathlib.Core.Option.{Option}
 use Prim.Native.Char.{code}
-use Prim.Native.Nat.{ℕ, suc, ◌+◌, ◌-◌, ◌*◌, ◌≤◌, ◌<◌, max}
+use Prim.Native.Nat.{ℕ, suc, ◌+◌, ◌*◌, ◌≤◌, ◌<◌}
 use native.Mathlib.Omega.{arith}
+use native.Mathlib.Nat.{zero-add}
+use native.Mathlib.Numerals.{add-one}
 use lib.Dec.{T, eqb}
 use lib.ListN.{length, take, drop, length-take, length-drop, length-append, take-append-drop}
-use lib.Seq.{take-suc, take_all, take-add, drop-drop, sets}
+use lib.Seq.{take-suc, take_all, drop-drop, take-append-add, drop-append-add, length-take-le}
 use Rattle.model.specs.Lists.{until, ascii}
 use Rattle.model.specs.Book.{Book}
-use Rattle.model.proofs.Places.{until-there, to_end}
+use Rattle.model.proofs.Places.{until-there}
 use Rattle.model.specs.Reader.{has_no_lf}
-use Rattle.accounts.specs.View.{state_from}
-use Rattle.rulebook.specs.View.{book_of}
+use Rattle.model.specs.Calls.{Call}
+use Rattle.model.specs.Holdings.{State}
 use Rattle.commands.specs.Grammar.{answer_size}
 use Rattle.commands.specs.Dialects.{command_in}
+use Rattle.commands.specs.View.{Printed}
 use Rattle.commands.specs.declared.Dialect.{Dialect}
-use Rattle.commands.proofs.Buffers.{sets_append}
 use Rattle.session.specs.Input.{answer_to, after_line}
 use Rattle.session.specs.Blocks.{Progress, between_lines, line_room, block_says, after_block}
-use Rattle.session.specs.inner.Parts.{PartKept, LineSaid, LinesSaid, progress_from, BlockSaid, BlockLeft}
-use Rattle.session.proofs.Lines.{says_both, after_both, part_says_lem, part_after, line-says, line_after, whole_says, whole-after}
+use Rattle.engine.specs.View.{book_in, state_in}
+use Rattle.session.specs.inner.Parts.{FirstLine, PartKept, LineAnswered, progress_in, BlockAnswered}
+use Rattle.session.specs.declared.Session.{Session}
+use Rattle.session.proofs.Lines.{says_both, after_both, part_says_lem, part_after, line-says, line_after, kept_command}
+use Rattle.session.proofs.Printing.{printed-front, printed_past, printed_all, printed_parts}
 
--- ---- up to the first LF
+-- ---- the first line
 
 until-plain : (s : List ℕ) → T (has_no_lf (take (until (code "\n") s) s))
 unfolding until
@@ -34,203 +40,170 @@ until-plain (x ∷ s) = go (eqb x (code "\n")) refl (until-plain s)
     go true e h = tt
     go false e h = rw e h
 
--- from a place on to the next LF
-module _ (block : List ℕ) (at end : ℕ) (ends : end ≡ at + until (code "\n") (drop at block)) where
-  part_is : end - at ≡ until (code "\n") (drop at block)
-  part_is = omega arith
+module _ (block : List ℕ) (end : ℕ) (ends : end ≡ until (code "\n") block) where
+  plain_to : T (has_no_lf (take end block))
+  plain_to = rw ends (until-plain block)
 
-  part_plain : T (has_no_lf (take (end - at) (drop at block)))
-  part_plain = rw part_is (until-plain (drop at block))
+  pub first-line : end < length block → FirstLine block (take end block) (drop (end + 1) block)
+  first-line l =
+      let there : until (code "\n") block < length block = omega arith in
+      let line : take (suc end) block ≡ take end block ++ ascii "\n" = take-suc block end 0 l ∙ rw ends (ap (λ (x : ℕ). take (until (code "\n") block) block ++ (x ∷ [])) (until-there (code "\n") block there)) in
+      record { whole = sym (take-append-drop (end + 1) block) ∙ ap (λ (w : List ℕ). w ++ drop (end + 1) block) (rw (add-one end) line); plain = plain_to }
 
-  -- the line and its LF
-  line-there : end < length block → take (end + 1) block ≡ take at block ++ (take (end - at) (drop at block) ++ ascii "\n")
-  line-there l =
-      let u = until (code "\n") (drop at block) in
-      let n : end + 1 ≡ at + suc u = omega arith in
-      let m : u < length (drop at block) = omega (arith, length-drop at block) in
-      rw (n, take-add at (suc u) block, take-suc (drop at block) u 0 m, until-there (code "\n") (drop at block) m, part_is)
+  pub no-line : length block ≤ end → T (has_no_lf block)
+  no-line l = rw (take_all end block l) at plain_to
 
-  -- no LF is left
-  rest_plain : length block ≤ end → T (has_no_lf (drop at block))
-  rest_plain l = rw (take_all (end - at) (drop at block) (omega (arith, length-drop at block))) at part_plain
+-- ---- from line to line
 
--- ---- the lines that end in a block
+module _ (d : Dialect) (b : Book) (p : Progress) (block out₀ : List ℕ) where
+  -- what was printed, with what the rest prints after the progress q, is what the block prints, and there is room for an answer to each byte
+  pub record Walking (q : Progress) (out : List ℕ) (count : ℕ) (rest : List ℕ) : Type 0 where
+    pub says : block_says d b p block ≡ take count out ++ block_says d b q rest
+    pub after : after_block d b p block ≡ after_block d b q rest
+    pub past : drop count out ≡ drop count out₀
+    pub room : count + length rest * answer_size ≤ length out
+    pub long : length out ≡ length out₀
 
-module _ (d : Dialect) (cards rules h₀ block out₀ : List ℕ) (from : ℕ) where
-  -- what the first bytes of the block print and leave
-  abbrev said_to : ℕ → List ℕ
-  said_to at = block_says d (book_of cards rules) (between_lines (state_from h₀)) (take at block)
+  pub walking_none : length block * answer_size ≤ length out₀ → Walking p out₀ 0 block
+  walking_none l = record { says = refl; after = refl; past = refl; room = omega arith; long = refl }
 
-  abbrev left_to : ℕ → Progress
-  left_to at = after_block d (book_of cards rules) (between_lines (state_from h₀)) (take at block)
+  module _ (q : Progress) (out : List ℕ) (count : ℕ) (rest : List ℕ) (w : Walking q out count rest) (short : length q.line ≤ line_room d) where
+    -- a line more, answered after what was printed
+    module _ (line next : List ℕ) (f : FirstLine rest line next) where
+      abbrev command : Option Call
+      command = command_in d (take (line_room d) (q.line ++ line))
 
-  pub record Walking (h out : List ℕ) (at count end : ℕ) : Type 0 where
-    pub put : out ≡ sets out₀ from (said_to at)
-    pub counted : count ≡ from + length (said_to at)
-    pub few : count ≤ from + at * answer_size
-    pub left : left_to at ≡ between_lines (state_from h)
-    pub ends : end ≡ at + until (code "\n") (drop at block)
-    pub last : end ≤ length block
-    pub near : at ≤ length block
-    pub same : length out ≡ length out₀
+      abbrev answer : List ℕ
+      answer = answer_to b q.state command
 
-  pub walking_none : (end : ℕ) → end ≡ 0 + until (code "\n") (drop 0 block) → end ≤ max 0 (length block) → Walking h₀ out₀ 0 from end
-  unfolding block_says after_block
-  walking_none end e k = record {
-    put = refl;
-    counted = omega arith;
-    few = omega arith;
-    left = refl;
-    ends = e;
-    last = omega arith;
-    near = omega arith;
-    same = refl;
-  }
+      abbrev after_it : Progress
+      after_it = between_lines (after_line b q.state command)
 
-  module _ (h out : List ℕ) (at count end : ℕ) (w : Walking h out at count end) where
-    abbrev part : List ℕ
-    part = take (end - at) (drop at block)
+      rest-says : block_says d b q rest ≡ answer ++ block_says d b after_it next
+      rest-says =
+          ap (block_says d b q) f.whole
+          ∙ says_both d b q (line ++ ascii "\n") next
+          ∙ rw (line-says d b q.state q.line line short f.plain, line_after d b q.state q.line line short f.plain)
 
-    abbrev part_says : List ℕ
-    part_says = answer_to (book_of cards rules) (state_from h) (command_in d part)
+      rest_after : after_block d b q rest ≡ after_block d b after_it next
+      rest_after =
+          ap (after_block d b q) f.whole ∙ after_both d b q (line ++ ascii "\n") next ∙ rw (line_after d b q.state q.line line short f.plain)
 
-    said_more : end < length block → said_to (end + 1) ≡ said_to at ++ part_says
-    said_more l =
-        let b = book_of cards rules in
-        rw (
-          line-there block at end w.ends l,
-          says_both d b (between_lines (state_from h₀)) (take at block) (part ++ ascii "\n"),
-          w.left,
-          whole_says d b (state_from h) part (part_plain block at end w.ends),
-        )
+      rest_length : length rest ≡ length line + 1 + length next
+      rest_length = omega (arith, ap length f.whole, length-append (line ++ ascii "\n") next, length-append line (ascii "\n"))
 
-    left-more : end < length block → left_to (end + 1) ≡ between_lines (after_line (book_of cards rules) (state_from h) (command_in d part))
-    left-more l =
-        let b = book_of cards rules in
-        rw (line-there block at end w.ends l, after_both d b (between_lines (state_from h₀)) (take at block) (part ++ ascii "\n"), w.left)
-        (whole-after d b (state_from h) part (part_plain block at end w.ends))
+      pub walking_more : (tail : List ℕ) (n : ℕ) → Printed answer_size answer (drop count out) tail n → Walking after_it (take count out ++ tail) (count + n) next
+      walking_more tail n a = record {
+        says = w.says ∙ ap (λ (l : List ℕ). take count out ++ l) rest-says ∙ sym (append_assoc (take count out) answer (block_says d b after_it next)) ∙ rw front;
+        after = w.after ∙ rest_after;
+        past =
+            ap (λ (k : ℕ). drop (k + n) (take count out ++ tail)) (sym before)
+            ∙ drop-append-add (take count out) tail n
+            ∙ printed_past a enough
+            ∙ ap (drop n) w.past
+            ∙ drop-drop n count out₀;
+        room = omega (arith, w.room, rest_length, a.counted, a.fits, longs);
+        long = longs ∙ w.long;
+      }
+        where
+          before : length (take count out) ≡ count
+          before = length-take-le count out (omega (arith, w.room))
 
-    -- a line and its LF more
-    pub walking_more : (h' out' : List ℕ) (r end' : ℕ) → end < length block → length out' ≡ length out → LineSaid d cards rules h part out count h' out' r
-        → end' ≡ end + 1 + until (code "\n") (drop (end + 1) block) → end' ≤ max (end + 1) (length block) → Walking h' out' (end + 1) r end'
-    walking_more h' out' r end' l z s e k = record {
-      put = rw (said_more l, sets_append out₀ from (said_to at) part_says, ← w.put, ← w.counted) s.put;
-      counted = omega (arith, s.next, w.counted, ap length (said_more l), length-append (said_to at) part_says);
-      few = omega (arith, w.few, s.few, w.ends);
-      left = rw (left-more l, s.state);
-      ends = e;
-      last = omega arith;
-      near = omega arith;
-      same = z ∙ w.same;
-    }
+          enough : answer_size ≤ length (drop count out)
+          enough = omega (arith, w.room, rest_length, length-drop count out)
+
+          front : take count out ++ answer ≡ take (count + n) (take count out ++ tail)
+          front = sym (
+              ap (λ (k : ℕ). take (k + n) (take count out ++ tail)) (sym before)
+              ∙ take-append-add (take count out) tail n
+              ∙ ap (λ (l : List ℕ). take count out ++ l) (printed-front a enough)
+              )
+
+          longs : length (take count out ++ tail) ≡ length out
+          longs = omega (arith, length-append (take count out) tail, printed_all a enough, before, length-drop count out, w.room)
 
     -- no LF is left
-    pub lines-said : length block ≤ end → LinesSaid d cards rules h₀ block out₀ from h out at count
-    lines-said l = record {
-      put = w.put;
-      next = w.counted;
-      few = w.few;
-      left = w.left;
-      near = w.near;
-      plain = rest_plain block at end w.ends l;
-    }
+    module _ (plain : T (has_no_lf rest)) where
+      pub walked_said : Printed (length out₀) (block_says d b p block) out₀ out count
+      walked_said = printed_parts printed w.past (omega (arith, w.room, w.long)) w.long (omega (arith, w.room, w.long))
+        where
+          printed : take count out ≡ block_says d b p block
+          printed = sym (w.says ∙ rw (part_says_lem d b q.state q.line rest short plain) (append-nil (take count out)))
 
--- ---- a block after what is kept of a line
+      pub walked_after : after_block d b p block ≡ record { state = q.state; line = take (line_room d) (q.line ++ rest) }
+      walked_after = w.after ∙ part_after d b q.state q.line rest short plain
 
-module _ (d : Dialect) (cards rules h buffer : List ℕ) (size : ℕ) (block out : List ℕ) (end : ℕ) (ends : end ≡ 0 + until (code "\n") (drop 0 block))
-    (few : size ≤ line_room d) where
-  abbrev b : Book
-  b = book_of cards rules
+-- ---- by a session, of which the buffer for a line has the room of the longest and one byte more
 
-  short : length (take size buffer) ≤ line_room d
-  short = omega (arith, length-take size buffer)
+-- the session s' goes on for s where the progress q is
+pub record GoesOn (s s' : Session) (q : Progress) : Type 0 where
+  pub state : q.state ≡ state_in s'.engine
+  pub dialect : s'.dialect ≡ s.dialect
+  pub book : book_in s'.engine ≡ book_in s.engine
 
-  from_start : end - 0 ≡ end
-  from_start = omega arith
+pub goes_on : (s : Session) (buffer : List ℕ) → GoesOn s s (progress_in s buffer)
+goes_on s buffer = record { state = refl; dialect = refl; book = refl }
 
-  first_plain : T (has_no_lf (take end block))
-  first_plain = rw from_start at (part_plain block 0 end ends)
+abbrev pub Walked : (s : Session) (buffer block out₀ : List ℕ) → Progress → List ℕ → ℕ → List ℕ → Type 0
+Walked s buffer = Walking s.dialect (book_in s.engine) (progress_in s buffer)
 
-  -- it has no LF: nothing is printed, and it is kept
-  module _ (l : length block ≤ end) where
-    all : take end block ≡ block
-    all = take_all end block l
+module _ (s : Session) (buffer block out₀ : List ℕ) (line : length buffer ≡ line_room s.dialect) where
+  -- a line that was answered
+  answered-more : (q : Progress) (out : List ℕ) (count : ℕ) (rest part next : List ℕ) → Walked s buffer block out₀ q out count rest → length q.line ≤ line_room s.dialect → FirstLine rest part next
+      → (s₁ : Session) → GoesOn s s₁ q → (text tail : List ℕ) (s₂ : Session) (n : ℕ) → LineAnswered s₁ text (drop count out) s₂ tail n
+      → command_in s.dialect (take (line_room s.dialect) (q.line ++ part)) ≡ command_in s.dialect text
+      → Walked s buffer block out₀ (between_lines (state_in s₂.engine)) (take count out ++ tail) (count + n) next × GoesOn s s₂ (between_lines (state_in s₂.engine))
+  answered-more q out count rest part next w short f s₁ g text tail s₂ n a same =
+      let b = book_in s.engine in
+      let command = command_in s.dialect (take (line_room s.dialect) (q.line ++ part)) in
+      let said : Printed answer_size (answer_to b q.state command) (drop count out) tail n = rw (same, g.state, ← g.book, ← g.dialect) a.said in
+      let left : after_line b q.state command ≡ state_in s₂.engine = rw (same, g.state, ← g.book, ← g.dialect) (sym a.state) in (
+        subst (λ (t : State). Walked s buffer block out₀ (between_lines t) (take count out ++ tail) (count + n) next) left
+            (walking_more s.dialect b (progress_in s buffer) block out₀ q out count rest w short part next f tail n said),
+        record { state = refl; dialect = ap (λ (t : Session). t.dialect) a.others ∙ g.dialect; book = a.book ∙ g.book },
+      )
 
-    plain : T (has_no_lf block)
-    plain = rw all at first_plain
+  -- the first line, after what was kept of it
+  pub first-answered : s.size ≤ length buffer → length block * answer_size ≤ length out₀ → (part next : List ℕ) → FirstLine block part next
+      → (s₁ : Session) (buffer₁ : List ℕ) → PartKept s buffer part s₁ buffer₁
+      → (s₂ : Session) (out : List ℕ) (n : ℕ) → LineAnswered s₁ (take s₁.size buffer₁) out₀ s₂ out n
+      → Walked s buffer block out₀ (between_lines (state_in s₂.engine)) out n next × GoesOn s s₂ (between_lines (state_in s₂.engine))
+  first-answered few room part next f s₁ buffer₁ k s₂ out n a =
+      let p = progress_in s buffer in
+      let w = walking_none s.dialect (book_in s.engine) p block out₀ room in
+      let g : GoesOn s s₁ p = record {
+        state = ap (λ (t : Session). state_in t.engine) (sym k.others);
+        dialect = ap (λ (t : Session). t.dialect) k.others;
+        book = ap (λ (t : Session). book_in t.engine) k.others;
+      } in
+      let same : command_in s.dialect (take (line_room s.dialect) (p.line ++ part)) ≡ command_in s.dialect (take s₁.size buffer₁) = rw (k.bytes, line) in
+      let z : 0 + n ≡ n = zero-add n in
+      rw z at (answered-more p out₀ 0 block part next w (omega (arith, length-take s.size buffer)) f s₁ g (take s₁.size buffer₁) out s₂ n a same)
 
-    pub unended_said : BlockSaid d cards rules h buffer size block out out 0
-    unended_said = let e = part_says_lem d b (state_from h) (take size buffer) block short plain in record { put = rw e; counted = rw e; few = omega arith }
+  -- a line that is read where it is
+  pub line-answered : (s₁ : Session) (out : List ℕ) (count : ℕ) (rest part next : List ℕ) → FirstLine rest part next
+      → Walked s buffer block out₀ (between_lines (state_in s₁.engine)) out count rest × GoesOn s s₁ (between_lines (state_in s₁.engine))
+      → (s₂ : Session) (tail : List ℕ) (n : ℕ) → LineAnswered s₁ part (drop count out) s₂ tail n
+      → Walked s buffer block out₀ (between_lines (state_in s₂.engine)) (take count out ++ tail) (count + n) next × GoesOn s s₂ (between_lines (state_in s₂.engine))
+  line-answered s₁ out count rest part next f w s₂ tail n a =
+      answered-more (between_lines (state_in s₁.engine)) out count rest part next w.0 (omega arith) f s₁ w.1 part tail s₂ n a (kept_command s.dialect part)
 
-    pub unended_left : (buffer' : List ℕ) (kept : ℕ) → PartKept (line_room d) buffer size (take end block) buffer' kept
-        → BlockLeft d cards rules h buffer size block h buffer' kept
-    unended_left buffer' kept k = record {
-      progress = part_after d b (state_from h) (take size buffer) block short plain ∙ rw (k.bytes, all);
-      within = k.within;
-      beyond = k.beyond;
-      long = k.long;
-    }
-
-  -- its first LF ends the line, then come the lines of the rest, and what is left
-  module _ (l : end < length block) (buffer₁ : List ℕ) (kept : ℕ) (k : PartKept (line_room d) buffer size (take end block) buffer₁ kept)
-      (h₁ out₁ : List ℕ) (n₁ : ℕ) (a : LineSaid d cards rules h (take kept buffer₁) out 0 h₁ out₁ n₁)
-      (h₂ out₂ : List ℕ) (rest n₂ : ℕ) (s : LinesSaid d cards rules h₁ (drop (end + 1) block) out₁ n₁ h₂ out₂ rest n₂) where
-    abbrev tail : List ℕ
-    tail = drop (end + 1) block
-
-    abbrev first_says : List ℕ
-    first_says = answer_to b (state_from h) (command_in d (take kept buffer₁))
-
-    abbrev tail_says : List ℕ
-    tail_says = block_says d b (between_lines (state_from h₁)) (take rest tail)
-
-    whole : block ≡ (take end block ++ ascii "\n") ++ tail
-    whole = sym (take-append-drop (end + 1) block) ∙ ap (λ (f : List ℕ). f ++ tail) (rw from_start at (line-there block 0 end ends l))
-
-    first_says_lem : block_says d b (progress_from h buffer size) (take end block ++ ascii "\n") ≡ first_says
-    first_says_lem = rw k.bytes (line-says d b (state_from h) (take size buffer) (take end block) short first_plain)
-
-    first_after : after_block d b (progress_from h buffer size) (take end block ++ ascii "\n") ≡ between_lines (state_from h₁)
-    first_after = line_after d b (state_from h) (take size buffer) (take end block) short first_plain ∙ rw (← k.bytes, a.state)
-
-    block_says_lem : block_says d b (progress_from h buffer size) block ≡ first_says ++ tail_says
-    block_says_lem =
-        ap (block_says d b (progress_from h buffer size)) whole
-        ∙ says_both d b (progress_from h buffer size) (take end block ++ ascii "\n") tail
-        ∙ rw (first_says_lem, first_after, tail-says)
-      where
-        tail-says : block_says d b (between_lines (state_from h₁)) tail ≡ tail_says
-        tail-says =
-            ap (block_says d b (between_lines (state_from h₁))) (sym (take-append-drop rest tail))
-            ∙ says_both d b (between_lines (state_from h₁)) (take rest tail) (drop rest tail)
-            ∙ rw (s.left, part_says_lem d b (state_from h₂) [] (drop rest tail) (omega arith) s.plain) (append-nil tail_says)
-
-    block_after : after_block d b (progress_from h buffer size) block ≡ record { state = state_from h₂; line = take (line_room d) (drop rest tail) }
-    block_after =
-        ap (after_block d b (progress_from h buffer size)) whole
-        ∙ after_both d b (progress_from h buffer size) (take end block ++ ascii "\n") tail
-        ∙ rw first_after tail-after
-      where
-        tail-after : after_block d b (between_lines (state_from h₁)) tail ≡ record { state = state_from h₂; line = take (line_room d) (drop rest tail) }
-        tail-after =
-            ap (after_block d b (between_lines (state_from h₁))) (sym (take-append-drop rest tail))
-            ∙ after_both d b (between_lines (state_from h₁)) (take rest tail) (drop rest tail)
-            ∙ rw s.left (part_after d b (state_from h₂) [] (drop rest tail) (omega arith) s.plain)
-
-    pub ended_said : BlockSaid d cards rules h buffer size block out out₂ n₂
-    ended_said = record {
-      put = rw (block_says_lem, sets_append out 0 first_says tail_says, ← a.put, ← a.next) s.put;
-      counted = omega (arith, ap length block_says_lem, length-append first_says tail_says, a.next, s.next);
-      few = omega (arith, a.few, s.few, s.near, length-drop (end + 1) block);
-    }
-
-    pub ended_left : (buffer₂ : List ℕ) (left : ℕ) → PartKept (line_room d) buffer₁ 0 (take (length block - (end + 1 + rest)) (drop (end + 1 + rest) block)) buffer₂ left
-        → BlockLeft d cards rules h buffer size block h₂ buffer₂ left
-    ended_left buffer₂ left m =
-        let place : drop rest tail ≡ drop (end + 1 + rest) block = drop-drop rest (end + 1) block in
-        record {
-          progress = block_after ∙ rw (m.bytes, to_end block (end + 1 + rest), place);
-          within = m.within;
-          beyond = m.beyond ∙ k.beyond;
-          long = m.long ∙ k.long;
-        }
+  -- the rest kept
+  pub block-answered : (q : Progress) (out : List ℕ) (count : ℕ) (rest : List ℕ) → Walked s buffer block out₀ q out count rest → T (has_no_lf rest)
+      → (s₁ : Session) (buffer₁ : List ℕ) → GoesOn s s₁ q → q.line ≡ take s₁.size buffer₁ → s₁.size ≤ length buffer₁ → length buffer₁ ≡ length buffer
+      → (s₂ : Session) (buffer₂ : List ℕ) → PartKept s₁ buffer₁ rest s₂ buffer₂ → BlockAnswered s buffer block out₀ s₂ buffer₂ out count
+  block-answered q out count rest w plain s₁ buffer₁ g kept few long s₂ buffer₂ k =
+      let b = book_in s.engine in
+      let p = progress_in s buffer in
+      let short : length q.line ≤ line_room s.dialect = omega (arith, ap length kept, length-take s₁.size buffer₁) in
+      let state : q.state ≡ state_in s₂.engine = g.state ∙ ap (λ (t : Session). state_in t.engine) (sym k.others) in
+      let bytes : take (line_room s.dialect) (q.line ++ rest) ≡ take s₂.size buffer₂ = rw (kept, k.bytes, long, line) in
+      record {
+        said = walked_said s.dialect b p block out₀ q out count rest w short plain;
+        progress = walked_after s.dialect b p block out₀ q out count rest w short plain
+            ∙ ap₂ (λ (t : State) (l : List ℕ). record { state = t; line = l }) state bytes;
+        within = omega (arith, k.within);
+        long = k.long ∙ long;
+        dialect = ap (λ (t : Session). t.dialect) k.others ∙ g.dialect;
+        book = ap (λ (t : Session). book_in t.engine) k.others ∙ g.book;
+      }

@@ -1,11 +1,12 @@
 -- What beginning, feeding and finishing a session promise, of any bytes, any dialect, any session and any buffers.
 use Rattle.std.specs.Prelude.{◌≡◌, Bool, cond, List, ℕ, ◌/◌, min, leb, length, take, drop}
 use Rattle.model.specs.Opening.{opening, opened_book}
+use Rattle.answers.specs.View.{answer_of}
 use Rattle.engine.specs.View.{book_in}
 use Rattle.commands.specs.Grammar.{answer_size}
 use Rattle.commands.specs.View.{Printed}
 use Rattle.commands.specs.declared.Dialect.{Dialect}
-use Rattle.session.specs.Input.{heading, is_opened}
+use Rattle.session.specs.Input.{heading}
 use Rattle.session.specs.Blocks.{no_progress, line_room, block_says, after_block, end_says}
 use Rattle.session.specs.View.{progress_of}
 use Rattle.session.specs.declared.Session.{Session}
@@ -15,7 +16,8 @@ use Rattle.session.specs.declared.Fed.{Fed}
 -- `out` and `out'` are the lent buffer before and afterwards
 pub record Begins (d : Dialect) (text out out' : List ℕ) (r : Begun) : Type 0 where
   pub said : Printed answer_size (heading (opening text)) out out' r.count
-  pub opened : r.opened ≡ is_opened (opening text)
+  -- the first question that is answered no, or the text's book
+  pub answers : answer_of (book_in r.session.engine) r.answer ≡ opening text
   pub dialect : r.session.dialect ≡ d
   -- the text's book, or that of the empty text where it is refused
   pub book : book_in r.session.engine ≡ opened_book text

@@ -7,17 +7,15 @@
 #![tactic(auto)]
 
 mod blocks;
-mod buffers;
 mod replies;
 
 ghost use Rattle.std.specs.Prelude.{◌≡◌};
 ghost use Rattle.session.specs.Blocks.{line_room};
 ghost use Rattle.session.specs.Contract.{Begins, Feeds, Finishes};
 
-use answers::{Answer, Reply};
+use answers::Answer;
 use commands::{ANSWER_SIZE, Dialect};
-use engine::Engine;
-use rulebook::layout::{card_count, rule_count};
+use engine::{Engine, Opened};
 
 // The dialect, the engine, and how much is kept of the line that has no LF yet.
 #[derive(Clone, Copy)]
@@ -27,11 +25,11 @@ pub struct Session {
     pub size: usize,
 }
 
-// A session, whether its text was opened, and how many bytes were printed.
+// A session, of a refused text too, what opening the text answered, and how many bytes were printed.
 #[derive(Clone, Copy)]
 pub struct Begun {
     pub session: Session,
-    pub opened: bool,
+    pub answer: Answer,
     pub count: usize,
 }
 
@@ -44,7 +42,7 @@ pub struct Fed {
 }
 
 // One byte over the longest line is enough to know that a line is too long.
-pub(crate) fn line_room(dialect: Dialect) -> usize
+fn line_room(dialect: Dialect) -> usize
     ensures { result ≡ line_room dialect }
 {
     dialect.longest as usize + 1
@@ -54,42 +52,25 @@ pub(crate) fn line_room(dialect: Dialect) -> usize
 pub fn begin(dialect: Dialect, text: &[u8], out: &mut [u8; ANSWER_SIZE]) -> Begun
     ensures { Begins dialect text.now out.old out.new result }
 {
-    let opened = engine::open(text);
-    let answer = opened.answer;
-    let engine = opened.engine;
+    let Opened { answer, engine } = engine::open(text);
+    let count = replies::put_opening(answer, &engine, out);
     let session = Session {
         dialect,
         engine,
         size: 0,
     };
-    match answer {
-        Answer::Done => {
-            let cards = card_count(&engine.cards);
-            let rules = rule_count(&engine.rules);
-            let count = commands::put_book(cards, rules, out);
-            Begun {
-                session,
-                opened: true,
-                count,
-            }
-        }
-        Answer::Refused(number, line) => {
-            let count = commands::put_reply(Reply::Refused(number, line), out);
-            Begun {
-                session,
-                opened: false,
-                count,
-            }
-        }
+    Begun {
+        session,
+        answer,
+        count,
     }
 }
 
 // As much of a block as there is room to answer, if each byte of it had an answer; nothing where the buffer for a line lacks its room.
-pub fn feed(session: Session, buffer: &mut [u8], block: &[u8], out: &mut [u8]) -> Fed
+pub fn feed(mut session: Session, buffer: &mut [u8], block: &[u8], out: &mut [u8]) -> Fed
     ensures { Feeds session buffer.old block.now out.old buffer.new out.new result }
 {
-    let dialect = session.dialect;
-    let room = line_room(dialect);
+    let room = line_room(session.dialect);
     if buffer.len() < room {
         return Fed {
             session,
@@ -97,51 +78,24 @@ pub fn feed(session: Session, buffer: &mut [u8], block: &[u8], out: &mut [u8]) -
             count: 0,
         };
     }
-    let taken = limits::least(block.len(), out.len() / ANSWER_SIZE);
-    let engine = session.engine;
-    let mut holdings = engine.holdings;
-    let size = limits::least(session.size, room);
-    let walked = blocks::answer_block(
-        dialect,
-        &engine.cards,
-        &engine.rules,
-        &mut holdings,
-        buffer,
-        size,
-        &block[..taken],
-        out,
-    );
-    let mut next = engine;
-    next.holdings = holdings;
+    let taken = block.len().min(out.len() / ANSWER_SIZE);
+    session.size = session.size.min(room);
+    let count = session.answer_block(&mut buffer[..room], &block[..taken], out);
     Fed {
-        session: Session {
-            dialect,
-            engine: next,
-            size: walked.size,
-        },
+        session,
         taken,
-        count: walked.count,
+        count,
     }
 }
 
 // The answer to a last line that lacks its LF, if there is one.
-pub fn finish(session: Session, buffer: &[u8], out: &mut [u8; ANSWER_SIZE]) -> usize
+pub fn finish(mut session: Session, buffer: &[u8], out: &mut [u8; ANSWER_SIZE]) -> usize
     ensures { Finishes session buffer.now out.old out.new result }
 {
-    let dialect = session.dialect;
-    let kept = limits::least(session.size, line_room(dialect));
-    let size = limits::least(kept, buffer.len());
-    if size == 0 {
+    let kept = session.size.min(line_room(session.dialect));
+    let line = &buffer[..kept.min(buffer.len())];
+    if line.is_empty() {
         return 0;
     }
-    let engine = session.engine;
-    let mut holdings = engine.holdings;
-    replies::answer(
-        dialect,
-        &engine.cards,
-        &engine.rules,
-        &mut holdings,
-        &buffer[..size],
-        out,
-    )
+    session.answer(line, out)
 }

@@ -1,71 +1,83 @@
-// A line answered: the command that it is, performed over the tables and the holdings, and its answer printed.
-ghost use Rattle.rulebook.specs.View.{book_of};
-ghost use Rattle.accounts.specs.Answered.{Answered};
-ghost use Rattle.commands.specs.View.{settlement_of, LiesIn};
+// What is printed of an opening and of a line: the command that a line is, performed on the engine in place, and its answer.
+ghost use Rattle.model.specs.Calls.{settle};
+ghost use Rattle.answers.specs.View.{answer_of};
+ghost use Rattle.commands.specs.Grammar.{answer_size};
+ghost use Rattle.commands.specs.Reader.{pair_bytes};
+ghost use Rattle.commands.specs.View.{command_of, Printed};
+ghost use Rattle.engine.specs.View.{book_in};
+ghost use Rattle.engine.specs.Contract.{Answers};
+ghost use Rattle.session.specs.Input.{heading};
 ghost use Rattle.session.specs.inner.Parts.{LineAnswered};
 
-use answers::Reply;
-use commands::{ANSWER_SIZE, Command, Dialect, Words};
-use rulebook::layout::{CardTable, RuleTable, card_count};
+use crate::Session;
+use accounts::Account;
+use answers::{Answer, Reply};
+use commands::{ANSWER_SIZE, Command};
+use engine::Engine;
+use rulebook::layout::{card_count, rule_count};
 
 // One byte over its limit is enough to refuse an exchange or a proof.
 const EXCHANGE_ROOM: usize = limits::EXCHANGE_LIMIT as usize + 1;
 
 const PROOF_ROOM: usize = limits::PROOF_LIMIT as usize + 1;
 
-// The settlement of a line's two words.
-fn settle(
-    cards: &CardTable,
-    rules: &RuleTable,
-    holdings: &mut [u32; 512],
-    line: &[u8],
-    words: Words,
-) -> Reply
-    requires { LiesIn line.now words.exchange × LiesIn line.now words.proof }
-    ensures { Answered (book_of cards.now rules.now) holdings.old (settlement_of line.now words) result holdings.new }
+// What opening a text answered, at the start of a lent buffer: how many bytes it is.
+pub(crate) fn put_opening(answer: Answer, engine: &Engine, out: &mut [u8; ANSWER_SIZE]) -> usize
+    ensures { Printed answer_size (heading (answer_of (book_in engine.now) answer)) out.old out.new result }
 {
-    let first = words.exchange;
-    let from = first.from;
-    let to = first.to;
-    let second = words.proof;
-    let next = second.from;
-    let end = second.to;
-    let mut exchange = [0; EXCHANGE_ROOM];
-    let n = commands::unhex(&line[from..to], &mut exchange);
-    let mut proof = [0; PROOF_ROOM];
-    let m = commands::unhex(&line[next..end], &mut proof);
-    settling::settle(cards, rules, holdings, &exchange[..n], &proof[..m])
+    match answer {
+        Ok(()) => {
+            let tables = &engine.tables;
+            commands::put_book(card_count(&tables.cards), rule_count(&tables.rules), out)
+        }
+        Err(refusal) => commands::put_reply(Err(refusal), out),
+    }
 }
 
-// The line's answer at the start of a lent buffer: how many bytes it is.
-pub(crate) fn answer<'a>(
-    dialect: Dialect,
-    cards: &'a CardTable,
-    rules: &'a RuleTable,
-    holdings: &mut [u32; 512],
-    line: &[u8],
-    reply: &mut [u8; ANSWER_SIZE],
-) -> usize
-    ensures { LineAnswered dialect cards.now rules.now holdings.old line.now reply.old result holdings.new reply.new }
+// The settlement of two words of hexadecimal.
+fn settle(engine: &mut Engine, exchange: &[u8], proof: &[u8]) -> Reply
+    ensures { Answers engine.old (settle (pair_bytes exchange.now) (pair_bytes proof.now)) result engine.new }
 {
-    let command = commands::read_in(dialect, line);
+    let mut transfers = [0; EXCHANGE_ROOM];
+    let n = commands::unhex(exchange, &mut transfers);
+    let mut records = [0; PROOF_ROOM];
+    let m = commands::unhex(proof, &mut records);
+    settling::settle(
+        &engine.tables,
+        &mut engine.holdings,
+        &transfers[..n],
+        &records[..m],
+    )
+}
+
+fn perform(engine: &mut Engine, command: Command) -> Reply
+    ensures { Answers engine.old (command_of command.entry) result engine.new }
+{
+    let declared = card_count(&engine.tables.cards);
+    let holdings = &mut engine.holdings;
     match command {
-        Command::Issue(m, k, n) => {
-            let told = accounts::issue(card_count(cards), holdings, m, k, n);
-            commands::put_reply(told, reply)
+        Command::Issue { card, kind, count } => {
+            accounts::issue(declared, holdings, Account { card, kind }, count)
         }
-        Command::Redeem(m, k, n) => {
-            let told = accounts::redeem(card_count(cards), holdings, m, k, n);
-            commands::put_reply(told, reply)
+        Command::Redeem { card, kind, count } => {
+            accounts::redeem(declared, holdings, Account { card, kind }, count)
         }
-        Command::Query(m, k) => {
-            let told = accounts::holding(card_count(cards), holdings, m, k);
-            commands::put_reply(told, reply)
+        Command::Query { card, kind } => {
+            accounts::holding(declared, holdings, Account { card, kind })
         }
-        Command::Settle(words) => {
-            let told = settle(cards, rules, holdings, line, words);
-            commands::put_reply(told, reply)
-        }
-        Command::Bad => commands::put_bad(reply),
+        Command::Settle { exchange, proof } => settle(engine, exchange, proof),
+    }
+}
+
+impl Session {
+    // The line's answer at the start of a lent buffer: how many bytes it is.
+    pub(crate) fn answer(&mut self, line: &[u8], reply: &mut [u8; ANSWER_SIZE]) -> usize
+        ensures { LineAnswered self.old line.now reply.old self.new reply.new result }
+    {
+        let Some(command) = commands::read_in(self.dialect, line) else {
+            return commands::put_bad(reply);
+        };
+        let told = perform(&mut self.engine, command);
+        commands::put_reply(told, reply)
     }
 }
