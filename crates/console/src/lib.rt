@@ -6,12 +6,12 @@
 
 #![tactic(auto)]
 
-ghost use Rattle.std.specs.Prelude.{◌≡◌, length};
-ghost use Rattle.console.specs.inner.Bounds.{InBuffer};
+ghost use Rattle.std.specs.Prelude.{◌≤◌, length, IfOk, IfSome};
 
 use commands::{ANSWER_SIZE, Dialect};
 use session::Session;
 use std::fs::File;
+use std::io;
 use std::io::Read;
 use std::rt::Files;
 
@@ -23,150 +23,88 @@ const BLOCK_SIZE: usize = 16384;
 
 const ANSWERS_SIZE: usize = BLOCK_SIZE * ANSWER_SIZE;
 
-// What reading a file gives: so many bytes of it, or that it cannot be read.
-#[derive(Clone, Copy)]
-enum Text {
-    Read(usize),
-    Missing,
-}
-
-// The session after a block, and whether all of the block was answered.
-#[derive(Clone, Copy)]
-struct AfterBlock {
-    session: Session,
-    whole: bool,
-}
-
-// A file's bytes from its start, as far as there is room.
-fn read_text(file: &mut impl Read, text: &mut [u8]) -> Text
-    ensures { InBuffer result text.new }
+// A file's bytes from its start, as far as there is room: how many. The library reads to a file's end only into memory that it allocates.
+fn read_text(file: &mut impl Read, text: &mut [u8]) -> io::Result<usize>
+    ensures { IfOk result (λ size. size ≤ length text.new) }
 {
     let mut size = 0;
     while size < text.len() {
-        let Ok(count) = file.read(&mut text[size..]) else {
-            return Text::Missing;
-        };
+        let count = file.read(&mut text[size..])?;
         if count == 0 {
-            return Text::Read(size);
+            break;
         }
         size += count;
     }
-    Text::Read(size)
+    Ok(size)
 }
 
 // A name that is not UTF-8 names no file: a path is text.
-fn read_book(rt: &impl Files, name: &[u8], text: &mut [u8]) -> Text
-    ensures { InBuffer result text.new }
+fn read_book(rt: &impl Files, name: &[u8], text: &mut [u8]) -> Option<usize>
+    ensures { IfSome result (λ size. size ≤ length text.new) }
 {
-    let Ok(path) = str::from_utf8(name) else {
-        return Text::Missing;
-    };
-    let Ok(mut file) = File::open(rt, path) else {
-        return Text::Missing;
-    };
-    read_text(&mut file, text)
-}
-
-// Whether all of the bytes were written: nothing is kept for a later write.
-fn write(rt: &impl Print, bytes: &[u8]) -> bool {
-    rt.write_all(bytes).is_ok()
+    let path = str::from_utf8(name).ok()?;
+    let mut file = File::open(rt, path).ok()?;
+    read_text(&mut file, text).ok()
 }
 
 // For a book that cannot be read, and for more arguments than one.
 pub fn say_bad(rt: &impl Print) {
     let mut out = [0; ANSWER_SIZE];
     let count = commands::put_bad(&mut out);
-    write(rt, &out[..count]);
+    let _ = rt.write_all(&out[..count]);
 }
 
-fn text_buffer() -> [u8; TEXT_ROOM]
-    ensures { 16385 ≡ length result }
-{
-    [0; TEXT_ROOM]
-}
-
-fn block_buffer() -> [u8; BLOCK_SIZE]
-    ensures { 16384 ≡ length result }
-{
-    [0; BLOCK_SIZE]
-}
-
-fn answers_buffer() -> [u8; ANSWERS_SIZE]
-    ensures { 524288 ≡ length result }
-{
-    [0; ANSWERS_SIZE]
-}
-
-fn after(session: Session, whole: bool) -> AfterBlock {
-    AfterBlock { session, whole }
-}
-
-// A block that was read, answered and written.
+// A block that was read, answered and written: the session afterwards, or none where the conversation ends.
 fn answer(
     rt: &impl Print,
-    session: Session,
+    mut session: Session,
     buffer: &mut [u8],
     block: &[u8],
     out: &mut [u8],
-) -> AfterBlock {
-    let mut next = session;
-    let mut at = 0;
-    while at < block.len() {
-        let fed = session::feed(next, buffer, &block[at..], out);
-        let taken = fed.taken;
-        let count = fed.count;
-        next = fed.session;
-        if !write(rt, &out[..count]) {
-            return after(next, false);
-        }
+) -> Option<Session> {
+    let mut rest = block;
+    while !rest.is_empty() {
+        let fed = session::feed(session, buffer, rest, out);
+        rt.write_all(&out[..fed.count]).ok()?;
         // The buffer lacks its room: no call would take more.
-        if taken == 0 {
-            return after(next, false);
+        if fed.taken == 0 {
+            return None;
         }
-        at += taken;
+        session = fed.session;
+        rest = &rest[fed.taken..];
     }
-    after(next, true)
+    Some(session)
 }
 
-// The input to its end, then a last line that lacks its LF. The count of reads is what shows that this ends.
-fn converse(rt: &(impl Input + Print), session: Session, buffer: &mut [u8]) {
-    let mut next = session;
-    let mut block = block_buffer();
-    let mut out = answers_buffer();
+// The input to its end, then a last line that lacks its LF; none where it ends before. The count of reads is what shows that this ends.
+fn converse(rt: &(impl Input + Print), mut session: Session, buffer: &mut [u8]) -> Option<()> {
+    let mut block = [0; BLOCK_SIZE];
+    let mut out = [0; ANSWERS_SIZE];
     let mut input = rt.reader();
     for _ in 0..u64::MAX {
         // Not the input's end: what was read of a line is not the line.
-        let Ok(count) = input.read(&mut block) else {
-            return;
-        };
+        let count = input.read(&mut block).ok()?;
         if count == 0 {
             break;
         }
-        let answered = answer(rt, next, buffer, &block[..count], &mut out);
-        if !answered.whole {
-            return;
-        }
-        next = answered.session;
+        session = answer(rt, session, buffer, &block[..count], &mut out)?;
     }
     let mut last = [0; ANSWER_SIZE];
-    let count = session::finish(next, buffer, &mut last);
-    write(rt, &last[..count]);
+    let count = session::finish(session, buffer, &mut last);
+    rt.write_all(&last[..count]).ok()
 }
 
 // The file of this name opened, then the input answered. In a buffer that is no longer than the dialect's longest line, no line is answered.
 pub fn run(rt: &(impl Files + Input + Print), dialect: Dialect, name: &[u8], buffer: &mut [u8]) {
-    let mut text = text_buffer();
-    let read = read_book(rt, name, &mut text);
-    let Text::Read(size) = read else {
+    let mut text = [0; TEXT_ROOM];
+    let Some(size) = read_book(rt, name, &mut text) else {
         say_bad(rt);
         return;
     };
     let mut out = [0; ANSWER_SIZE];
     let begun = session::begin(dialect, &text[..size], &mut out);
-    let count = begun.count;
-    let written = write(rt, &out[..count]);
-    if written & begun.opened {
-        let session = begun.session;
-        converse(rt, session, buffer);
+    let written = rt.write_all(&out[..begun.count]);
+    if written.is_ok() && begun.answer.is_ok() {
+        let _ = converse(rt, begun.session, buffer);
     }
 }

@@ -2,20 +2,12 @@
 
 #![tactic(auto)]
 
-ghost use Rattle.std.specs.Prelude.{◌≡◌, length};
-ghost use Rattle.commands.specs.Dialects.{ringswap};
-ghost use Rattle.session.specs.Blocks.{line_room};
-
 // One byte more than the longest line.
 const LINE_ROOM: usize = commands::RINGSWAP_LONGEST as usize + 1;
 
-fn line_buffer() -> [u8; LINE_ROOM]
-    ensures { length result ≡ line_room ringswap }
-{
-    [0; LINE_ROOM]
-}
-
 fn main(rt: HostRuntime) {
-    let mut buffer = line_buffer();
-    console::run(&rt, commands::ringswap(), b"book.txt", &mut buffer);
+    let dialect = commands::ringswap();
+    let mut buffer = [0; LINE_ROOM];
+    prove!((dialect.longest as usize) < buffer.len());
+    console::run(&rt, dialect, b"book.txt", &mut buffer);
 }

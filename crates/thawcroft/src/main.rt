@@ -3,10 +3,6 @@
 
 #![tactic(auto)]
 
-ghost use Rattle.std.specs.Prelude.{◌≡◌, length};
-ghost use Rattle.commands.specs.Dialects.{thawcroft};
-ghost use Rattle.session.specs.Blocks.{line_room};
-
 use std::env::{Env, FillError};
 use std::rt::Files;
 
@@ -16,15 +12,11 @@ const NAME_ROOM: usize = 4096;
 // One byte more than the longest line.
 const LINE_ROOM: usize = commands::THAWCROFT_LONGEST as usize + 1;
 
-fn line_buffer() -> [u8; LINE_ROOM]
-    ensures { length result ≡ line_room thawcroft }
-{
-    [0; LINE_ROOM]
-}
-
 fn run(rt: &(impl Files + Input + Print), name: &[u8]) {
-    let mut buffer = line_buffer();
-    console::run(rt, commands::thawcroft(), name, &mut buffer);
+    let dialect = commands::thawcroft();
+    let mut buffer = [0; LINE_ROOM];
+    prove!((dialect.longest as usize) < buffer.len());
+    console::run(rt, dialect, name, &mut buffer);
 }
 
 // Whether the program has an argument with this number.

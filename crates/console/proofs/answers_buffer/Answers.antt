@@ -1,7 +1,0 @@
--- The length of so many zeros, by its law and not counted.
-use Rattle.std.proofs.Common.{sym, ℕ}
-use Rattle.std.proofs.lemmas.List.{length-replicate}
-use Rattle.console.proofs.answers_buffer.Goals as goal
-
-pub returns : goal.returns
-returns c = sym (length-replicate {0} {A = ℕ} 524288 0)
