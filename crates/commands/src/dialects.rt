@@ -10,6 +10,7 @@ pub const RINGSWAP_LONGEST: u32 = 8192;
 
 pub const THAWCROFT_LONGEST: u32 = 40960;
 
+// The dialects are functions, not constants, so that a contract says which of the definitions' they are.
 pub fn ringswap() -> Dialect
     ensures { result ≡ dialects.ringswap }
 {

@@ -7,7 +7,7 @@ ghost use Rattle.commands.specs.inner.Parts.{split_of, numbered_of, call_of_thre
 
 use crate::{Command, hexadecimal, numbers};
 
-// A word is a few bytes, which `ascii::find` would not pass faster.
+// Most words are a few bytes: by `ascii::find`, which passes eight a turn, reading takes 3 % more instructions.
 fn first_space(text: &[u8]) -> Option<usize>
     ensures { result ≡ position (λ x. x == 32) text.now }
 {

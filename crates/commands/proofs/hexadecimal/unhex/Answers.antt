@@ -1,9 +1,8 @@
 -- The first pair of the rest is put next, if it is one.
-use Rattle.std.proofs.Common.{◌≡◌, ◌∷◌, ◌∙◌, sym, drop}
+use Rattle.std.proofs.Common.{◌∙◌, sym}
 use Rattle.std.proofs.lemmas.List.{set-get_or}
 use borrow.Author.Rules.{rules}
 use Rattle.model.proofs.Places.{to_end}
-use Rattle.commands.specs.Reader.{pair_bytes}
 use Rattle.commands.proofs.Pairs.{pair_stops, pair_follows}
 use Rattle.commands.proofs.Buffers.{filling_more, filled_all}
 use Rattle.commands.proofs.hexadecimal.unhex.Goals as goal
@@ -14,7 +13,6 @@ returns-in_default-pair c =
 
 pub loop-n-preserved : goal.loop-n-preserved
 loop-n-preserved c =
-    let follows : pair_bytes c.loop-n.rest.now ≡ c.in-Some.value ∷ pair_bytes (drop 2 c.loop-n.rest.now) =
-    pair_follows _ _ c.in-len2-up.len_at_least (sym c.pair.ensures ∙ c.in-Some.is)
-    in
-    rw (to_end c.loop-n.rest.now 2) (filling_more c.loop-n.invariant _ _ follows (search rules))
+    let first = sym c.pair.ensures ∙ c.in-Some.is in
+    let more = filling_more c.loop-n.invariant c.in-Some.value _ (pair_follows _ _ c.in-len2-up.len_at_least first) (search rules) in
+    rw (to_end c.loop-n.rest.now 2) more
