@@ -1,7 +1,6 @@
 // Rule lines: `R m K v`, then prices ` < w K y`, then conditions ` ? g z` or ` = z z`.
-ghost use Rattle.std.specs.Prelude.{◌≡◌, ◌+◌, ◌*◌, ◌≤◌};
-ghost use Rattle.model.specs.Limits.{price_limit, condition_limit};
-ghost use Rattle.model.specs.Reader.{price_width, condition_width, mark_at, price_count, condition_count};
+ghost use Rattle.std.specs.Prelude.{◌≡◌, ◌+◌, ◌*◌, ◌≤◌, ◌<◌, ℕ, Bool};
+ghost use Rattle.model.specs.Reader.{mark_at, leading, price_width, condition_width, has_price, has_condition};
 ghost use Rattle.forms.specs.Forms.{longest, price_in, condition_in, head_in, rule_form_in};
 
 use crate::{CONDITION_LIMIT, CONDITION_WIDTH, PRICE_LIMIT, PRICE_WIDTH};
@@ -78,29 +77,18 @@ pub fn condition_at(line: &[u8], at: usize) -> Option<Condition>
     first_condition(line.get(at..)?)
 }
 
-// How many prices follow one another at a place, at most four; conditions likewise.
-fn price_count(line: &[u8], at: usize) -> usize
-    requires { at + price_limit * price_width ≤ longest }
-    ensures { (result ≡ price_count line.now at) × (result ≤ price_limit) }
+// How many of the places 0, 1, .. hold before the first that does not, at most so many.
+fn leading<F: Fn(usize) -> bool>(limit: usize, holds: F) -> usize
+    requires { (i : ℕ) → i < limit → F.pre holds i }
+    ensures told { (test : ℕ → Bool) → ((i : ℕ) (b : Bool) → i < limit → F.post holds i b → b ≡ test i) → result ≡ leading test limit }
+    ensures few { result ≤ limit }
 {
-    for i in 0..PRICE_LIMIT {
-        if price_at(line, at + i * PRICE_WIDTH).is_none() {
+    for i in 0..limit {
+        if !holds(i) {
             return i;
         }
     }
-    PRICE_LIMIT
-}
-
-fn condition_count(line: &[u8], at: usize) -> usize
-    requires { at + condition_limit * condition_width ≤ longest }
-    ensures { (result ≡ condition_count line.now at) × (result ≤ condition_limit) }
-{
-    for i in 0..CONDITION_LIMIT {
-        if condition_at(line, at + i * CONDITION_WIDTH).is_none() {
-            return i;
-        }
-    }
-    CONDITION_LIMIT
+    limit
 }
 
 // What a rule's head says, `R m K v`: the owner gives one token of the kind to the receiver, a variable; and the place after it.
@@ -143,9 +131,22 @@ pub fn rule_form(line: &[u8]) -> Option<RuleForm>
     ensures { result ≡ rule_form_in line.now }
 {
     let head = head_of(line)?;
-    let prices = price_count(line, head.end);
-    let tail = head.end + prices * PRICE_WIDTH;
-    let conditions = condition_count(line, tail);
+    let body = head.end;
+    let prices = leading(
+        PRICE_LIMIT,
+        |i: usize|
+            requires { body + i * price_width ≤ longest }
+            ensures { result ≡ has_price line.entry.now (body + i * price_width) }
+        { price_at(line, body + i * PRICE_WIDTH).is_some() },
+    );
+    let tail = body + prices * PRICE_WIDTH;
+    let conditions = leading(
+        CONDITION_LIMIT,
+        |i: usize|
+            requires { tail + i * condition_width ≤ longest }
+            ensures { result ≡ has_condition line.entry.now (tail + i * condition_width) }
+        { condition_at(line, tail + i * CONDITION_WIDTH).is_some() },
+    );
     let end = tail + conditions * CONDITION_WIDTH;
     (end == line.len()).then_some(RuleForm {
         head,
