@@ -3,7 +3,7 @@ use Rattle.engine.proofs.CallLaws.{opens, opens_none}
 use Rattle.engine.proofs.open.Goals as goal
 
 pub returns-in-Ok : goal.returns-in-Ok
-returns-in-Ok c = rw c.holding_nothing.ensures (opens _ _ c.in-Ok.ensures)
+returns-in-Ok c = opens _ _ c.in-Ok.ensures
 
 pub returns-in-Err : goal.returns-in-Err
-returns-in-Err c = rw (c.holding_nothing-in-Err.ensures, c.empty.ensures.tables) (opens_none _ _ c.in-Err.ensures)
+returns-in-Err c = rw c.empty.ensures.tables (opens_none _ _ c.in-Err.ensures)
