@@ -1,18 +1,9 @@
-// A call so many times.
+// A call so many times, the engine of one handed to the next: how many were not refused.
 ghost use Rattle.std.specs.Prelude.{◌≤◌};
 
-use answers::Reply;
 use engine::{Called, Engine};
 
-// The engine of one call handed to the next.
-pub(crate) fn after(engine: &mut Engine, called: Called) -> Reply {
-    *engine = called.engine;
-    called.reply
-}
-
-// How many of the calls were not refused. They are a function of their own, so that their engines lie apart from all else.
-#[inline(never)]
-pub(crate) fn repeat<F: FnMut(&mut Engine) -> Reply>(
+pub(crate) fn repeat<F: FnMut(&Engine) -> Called>(
     engine: &mut Engine,
     times: u32,
     mut call: F,
@@ -20,9 +11,28 @@ pub(crate) fn repeat<F: FnMut(&mut Engine) -> Reply>(
     requires { F.IsAlwaysCallable call }
     ensures { result ≤ times }
 {
+    let mut next = *engine;
     let mut count = 0;
     for i in 0..times {
-        count += u32::from(call(engine).is_ok());
+        let called = call(&next);
+        count += u32::from(called.reply.is_ok());
+        next = called.engine;
     }
+    *engine = next;
+    count
+}
+
+// The same loop by itself: a closure would clear the two engines that it passes on at each settlement, 13,615 instructions for 3,000.
+pub(crate) fn repeat_settle(engine: &mut Engine, exchange: &[u8], proof: &[u8], times: u32) -> u32
+    ensures { result ≤ times }
+{
+    let mut next = *engine;
+    let mut count = 0;
+    for i in 0..times {
+        let called = engine::settle(next, exchange, proof);
+        count += u32::from(called.reply.is_ok());
+        next = called.engine;
+    }
+    *engine = next;
     count
 }

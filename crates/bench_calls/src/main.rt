@@ -9,7 +9,7 @@ mod calls;
 
 use accounts::Account;
 use answers::Told;
-use calls::{after, repeat};
+use calls::{repeat, repeat_settle};
 use commands::Command;
 use engine::Engine;
 use std::io;
@@ -19,10 +19,10 @@ const REPEATS: u32 = 100_000;
 fn perform(engine: &mut Engine, line: &[u8], times: u32) -> u32 {
     match commands::read(line) {
         Some(Command::Issue { card, kind, count }) => repeat(engine, times, |next| {
-            after(next, engine::issue(*next, Account { card, kind }, count))
+            engine::issue(*next, Account { card, kind }, count)
         }),
         Some(Command::Redeem { card, kind, count }) => repeat(engine, times, |next| {
-            after(next, engine::redeem(*next, Account { card, kind }, count))
+            engine::redeem(*next, Account { card, kind }, count)
         }),
         Some(Command::Query { card, kind }) => ask(engine, Account { card, kind }, times),
         Some(Command::Settle { exchange, proof }) => settle(engine, exchange, proof, times),
@@ -34,12 +34,12 @@ fn perform(engine: &mut Engine, line: &[u8], times: u32) -> u32 {
 fn ask(engine: &mut Engine, first: Account, times: u32) -> u32 {
     let mut account = first;
     repeat(engine, times, |next| {
-        let reply = after(next, engine::holding(*next, account));
-        account.kind = match reply {
+        let called = engine::holding(*next, account);
+        account.kind = match called.reply {
             Ok(Told::Holding(held)) => held,
             _ => 0,
         };
-        reply
+        called
     })
 }
 
@@ -51,9 +51,7 @@ fn settle(engine: &mut Engine, exchange: &[u8], proof: &[u8], times: u32) -> u32
     let m = commands::unhex(proof, &mut proof_bytes);
     let exchange = &exchange_bytes[..n];
     let proof = &proof_bytes[..m];
-    repeat(engine, times, |next| {
-        after(next, engine::settle(*next, exchange, proof))
-    })
+    repeat_settle(engine, exchange, proof, times)
 }
 
 // Each line so many times.
