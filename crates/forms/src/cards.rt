@@ -76,10 +76,9 @@ fn checks(number: CardNumber) -> bool
     ensures { result ≡ luhn (digits_in number) }
 {
     let n = number.count;
-    let digits = number.digits;
     let mut sum = 0;
-    for i in 0..n {
-        sum += weigh(n - (i + 1), digits[i]);
+    for (i, d) in number.digits[..n].iter().enumerate() {
+        sum += weigh(n - (i + 1), *d);
     }
     sum % 10 == 0
 }

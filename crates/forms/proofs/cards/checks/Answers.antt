@@ -1,9 +1,8 @@
 -- The sum of what the digits before i count, with those from i on, is the whole sum.
 use mathlib.Core.Path.{◌≡◌}
-use Prim.Native.Nat.{◌<◌}
 use native.Mathlib.Omega.{arith}
 use lib.ListN.{length}
-use lib.Seq.{get_or-take, length-take-le}
+use lib.Seq.{length-take-le}
 use Rattle.model.specs.Limits.{most_digits}
 use Rattle.model.specs.CardNumbers.{luhn}
 use Rattle.forms.specs.Numbers.{digits_in}
@@ -19,13 +18,13 @@ long c = let n = c.args.number in let l : length n.digits ≡ most_digits = sear
 pub loop-i-preserved : goal.loop-i-preserved
 loop-i-preserved c =
     let h = c.loop-i in
-    let n = c.args.number in
-    let l : h.i < n.count = c.loop-i-test.true in
-    let more = sum_more (digits_in n) h.i h.sum h.invariant.1 (omega (arith, long (goal.at.loop-i-preserved c).At-loop-i)) in
-    (search rules, rw c.weigh-sum.ensures.0 (rw (long (goal.at.loop-i-preserved c).At-loop-i, get_or-take n.count n.digits h.i 0 l) at more), omega (arith, c.weigh-sum.ensures.1, h.invariant.2))
+    let n = long (goal.at.loop-i-preserved c).At-loop-i in
+    let more = sum_more (digits_in c.args.number) h.i h.sum h.invariant.0 (omega (arith, c.loop-i-test.true)) in
+    (rw c.weigh-sum.ensures.0 (rw n at more), omega (arith, c.weigh-sum.ensures.1, h.invariant.1))
 
 pub returns : goal.returns
 unfolding luhn
 returns c =
     let h = c.loop-i in
-    rw (luhn-is (digits_in c.args.number) h.i h.sum h.invariant.1 (omega (arith, long (goal.at.returns c).At-loop-i)))
+    let n = long (goal.at.returns c).At-loop-i in
+    rw (luhn-is (digits_in c.args.number) h.i h.sum h.invariant.0 (omega (arith, c.loop-i-test.false)))
