@@ -7,7 +7,7 @@ ghost use Rattle.forms.specs.inner.Words.{word_number_in};
 
 use crate::{LEAST_DIGITS, MOST_DIGITS};
 
-// A card number: how many digits it has, and the first 19 of them, zeros after the last.
+// A card number: how many digits it has, and the first 19 of them, zeros after the last. The engine has no heap, so the row is of fixed size.
 #[derive(Clone, Copy)]
 pub struct CardNumber {
     pub count: usize,
@@ -76,6 +76,7 @@ fn checks(number: CardNumber) -> bool
     ensures { result ≡ luhn (digits_in number) }
 {
     let n = number.count;
+    // A loop: what a chain's `sum` asks, that no sum of its turns is too large, was not proved of a chain that is reversed and numbered.
     let mut sum = 0;
     for (i, d) in number.digits[..n].iter().enumerate() {
         sum += weigh(n - (i + 1), *d);

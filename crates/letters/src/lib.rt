@@ -1,4 +1,6 @@
 // What the bytes of a rule text's line stand for: a kind, a variable, a name, a group, and the number m of a card.
+//
+// Each letter is matched on ranges, which is the form that document 01 names.
 
 #![tactic(auto)]
 
