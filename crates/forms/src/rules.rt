@@ -83,6 +83,7 @@ fn leading<F: Fn(usize) -> bool>(limit: usize, holds: F) -> usize
     ensures told { (test : ℕ → Bool) → ((i : ℕ) (b : Bool) → i < limit → F.post holds i b → b ≡ test i) → result ≡ leading test limit }
     ensures few { result ≤ limit }
 {
+    // A loop: of `position` over a range it was not proved that each number of the range may be asked, and which one was found.
     for i in 0..limit {
         if !holds(i) {
             return i;
