@@ -24,8 +24,9 @@ use Rattle.transfers.specs.View.{transfer_count}
 use Rattle.rulebook.proofs.Books.{rules_small}
 use Rattle.judge.specs.inner.Rows.{price_asked, prices_asked}
 use Rattle.judge.specs.inner.Records.{is_claimable, is_linked, questions16to19, questions15to20}
+use Rattle.judge.specs.declared.notes.Notes.{Notes}
 use Rattle.judge.specs.inner.Notes.{Notable, Noted}
-use Rattle.judge.specs.inner.Counts.{FirstGifts, Room, Asks, is_paid}
+use Rattle.judge.specs.inner.Counts.{Room, Asks, is_paid}
 use Rattle.judge.proofs.Paying.{no_counts, asks_none, asks_more, asks_swap, counts_room, paid≡}
 use Rattle.model.proofs.Questions.{unmet_append, first_refuses}
 use Rattle.judge.proofs.Issuers.{prices≡, rule_at_lem}
@@ -208,24 +209,26 @@ module _ (card_table rule_table : List ℕ) (e p : List ℕ) where
 -- ---- a turn of the loop
 
 -- what is known of record r, record i of the chain, once it has met its questions
-pub record Turn (card_table rule_table : List ℕ) (e p firsts : List ℕ) (left : ℕ) (marks : List Bool) (counts : List ℕ) (missing : Bool) (r : List ℕ) : Type 0 where
-  pub notable : Notable e firsts r marks counts
-  pub on : {found : Bool} {marks' : List Bool} {after : List ℕ} → Noted e rule_table r marks counts found marks' after
-      → Going card_table rule_table e p (left - 1) marks' after (missing || not found) (next r)
+pub record Turn (card_table rule_table : List ℕ) (e p : List ℕ) (left : ℕ) (notes : Notes) (r : List ℕ) : Type 0 where
+  pub notable : Notable r notes
+  pub on : {after : Notes} → Noted rule_table r notes after
+      → (after.gifts.exchange.bytes.now ≡ e) × Going card_table rule_table e p (left - 1) after.claimed after.asked after.missing (next r)
 
-pub turn_facts : (card_table rule_table : List ℕ) (e p firsts : List ℕ) → length e ≤ 96 → FirstGifts e (transfer_count e) firsts → (left : ℕ) (marks : List Bool) (counts : List ℕ) (missing : Bool) (i : ℕ) (r : List ℕ)
-    → Going card_table rule_table e p left marks counts missing i → 0 < left → r ≡ record_at p i → first_unmet (questions15to20 card_table rule_table e r marks (left - 1) (length p / 12)) ≡ 0
-    → Turn card_table rule_table e p firsts left marks counts missing r
-turn_facts card_table rule_table e p firsts short gifts left marks counts missing i r g some r≡ met =
-    let w = passed card_table rule_table e r marks (left - 1) (length p / 12) met in
+pub turn_facts : (card_table rule_table : List ℕ) (e p : List ℕ) → length e ≤ 96 → (left : ℕ) (notes : Notes) → notes.gifts.exchange.bytes.now ≡ e → (i : ℕ) (r : List ℕ)
+    → Going card_table rule_table e p left notes.claimed notes.asked notes.missing i → 0 < left → r ≡ record_at p i
+    → first_unmet (questions15to20 card_table rule_table e r notes.claimed (left - 1) (length p / 12)) ≡ 0
+    → Turn card_table rule_table e p left notes r
+turn_facts card_table rule_table e p short left notes e≡ i r g some r≡ met =
+    let w = passed card_table rule_table e r notes.claimed (left - 1) (length p / 12) met in
     record {
       notable = record {
-        short = short;
         claim_bounds = omega (arith, w.claim_bounds);
         rule_bounds = omega (arith, w.rule_bounds, rules_small rule_table);
-        marked = g.size;
-        gifts = gifts;
-        room = room card_table rule_table e p short left marks counts missing i g some;
+        room = rw e≡ (room card_table rule_table e p short left notes.claimed notes.asked notes.missing i g some);
       };
-      on = λ {found} {marks'} {after} h. rw (h.claimed, r≡) (going_on card_table rule_table e p short left marks counts missing i g some (rw r≡ at met) after found (rw r≡ at h.asked));
+      on = λ {after} h. (
+        h.asked.exchange ∙ e≡,
+        rw (h.claimed, h.asked.missing, r≡)
+            (going_on card_table rule_table e p short left notes.claimed notes.asked notes.missing i g some (rw r≡ at met) after.asked h.asked.found (rw (e≡, r≡) at h.asked.asks)),
+      );
     }

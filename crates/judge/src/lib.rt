@@ -1,5 +1,5 @@
 // An exchange and its proof judged over a rulebook's two tables: questions 12 to 21 of document 01.
-// Modules: `sizes` asks 12 and 14 (crate transfers 13), `records` 15, 16 and 20, `variables` 17, `prices` 18 and 21, `conditions` 19;
+// Modules: `sizes` asks 12 and 14 (crate transfers 13), `records` 15, 16 and 20, `variables` 17, `prices` 18, `conditions` 19, `notes` 21;
 // `chain` takes the records in turn, each with its rule as an `approval`.
 //
 // The two tables are lent. Any value of them is taken: counts past their limit are cut to it.
@@ -9,6 +9,9 @@
 mod approval;
 mod chain;
 mod conditions;
+mod exchange;
+mod gifts;
+mod notes;
 mod prices;
 mod proof;
 mod records;
@@ -18,6 +21,7 @@ mod variables;
 ghost use Rattle.judge.specs.Judges.{Judges};
 
 use answers::{Reason, Refusal};
+use exchange::Exchange;
 use rulebook::Tables;
 use rulebook::layout::card_count;
 
@@ -41,5 +45,5 @@ pub fn judge(tables: &Tables, exchange: &[u8], proof: &[u8]) -> Result<(), Refus
     if !sizes::is_sized(proof, proof::RECORD_SIZE, PROOF_LIMIT) {
         return Err(Reason::ProofSize.into());
     }
-    chain::follow(tables, exchange, proof)
+    chain::follow(tables, Exchange { bytes: exchange }, proof)
 }

@@ -24,6 +24,10 @@ range_last : (a n : ℕ) → range_with_len a (suc n) ≡ range_with_len a n ++ 
 range_last a zero = let z : a + 0 ≡ a = omega arith in rw z
 range_last a (suc n) = let s : a + 1 + n ≡ a + suc n = omega arith in ap (λ (r : List ℕ). a ∷ r) (range_last (a + 1) n ∙ rw s)
 
+pub list_all≡ : {A : Type 0} (p : A → Bool) (xs : List A) → list_all p xs ≡ every p xs
+list_all≡ p [] = refl
+list_all≡ p (x ∷ xs) = ap (λ (b : Bool). p x && b) (list_all≡ p xs)
+
 module _ {A : Type 0} (f : ℕ → A) where
   map_last : (xs : List ℕ) (n : ℕ) → map f (xs ++ (n ∷ [])) ≡ map f xs ++ (f n ∷ [])
   map_last [] n = refl

@@ -53,7 +53,7 @@ returns-then-not-is_sized-2 c =
 
 pub follow-requires : goal.follow-requires
 follow-requires c =
-    (short c.args.exchange.now (met12 (goal.at.follow-requires c).Else-not-is_sized), recorded c.args.proof.now (met14 c))
+    recorded c.args.proof.now (met14 (goal.at.follow-requires c).Else-not-is_sized-2)
 
 pub returns : goal.returns
 returns c =

@@ -1,6 +1,8 @@
 -- Question 21 over the bytes: for each transfer of the exchange one byte, how often its giver, kind and receiver are asked as a
 -- price, counted at the first of equal transfers, and one flag for a price that no transfer meets.
-use Rattle.std.specs.Prelude.{◌≡◌, Bool, not, ◌&&◌, cond, List, ℕ, ◌+◌, ◌/◌, ◌≤◌, ◌<◌, eqb, leb, length, get_or}
+use Rattle.std.specs.Prelude.{◌≡◌, Bool, not, ◌&&◌, cond, List, ℕ, ◌+◌, ◌/◌, ◌≤◌, ◌<◌, Option, eqb, leb, length, get_or, take}
+use Rattle.std.specs.List.{list_all}
+use Rattle.std.specs.Option.{MatchOption}
 use Rattle.model.specs.Limits.{transfer_size, exchange_limit}
 use Rattle.model.specs.Lists.{every, up_to}
 use Rattle.model.specs.Transfers.{Transfer, Exchange, count, transfer_at, exchange_of}
@@ -22,6 +24,10 @@ pub record FirstGifts (e : List ℕ) (i : ℕ) (firsts : List ℕ) : Type 0 wher
   pub low : (c : ℕ) → c < 256 → get_or firsts c 0 ≤ transfer_count e
   pub none : (c j : ℕ) → c < 256 → j < i → j < get_or firsts c 0 → (transfer_at e j).giver ≡ c → ⊥
 
+-- the first place that holds the transfer t, if one does
+abbrev pub FirstAt : List ℕ → Transfer → Option ℕ → Type 0
+FirstAt e t r = MatchOption r (count t (exchange_of e) ≡ 0) (λ j. (j < transfer_count e) × (t ≡ transfer_at e j) × (count t (up_to (transfer_at e) j) ≡ 0))
+
 -- k at the first of equal transfers, nothing at the others
 unfoldable pub at_first : List ℕ → ℕ → ℕ → ℕ
 at_first e j k = cond (eqb (count (transfer_at e j) (up_to (transfer_at e) j)) 0) k 0
@@ -38,7 +44,7 @@ all_met e counts = every (λ j. leb (get_or counts j 0) (count (transfer_at e j)
 
 -- the first n are asked at most once each
 abbrev pub asked_once : List ℕ → ℕ → Bool
-asked_once counts n = every (λ j. leb (get_or counts j 0) 1) (below n)
+asked_once counts n = list_all (λ k. leb k 1) (take n counts)
 
 -- question 21: nothing is asked that is no transfer, and no transfer more often than it occurs
 unfoldable pub is_paid : List ℕ → List ℕ → Bool → Bool

@@ -1,6 +1,6 @@
 -- What the inner functions are given, and what following the chain answers.
 use Rattle.std.specs.Prelude.{◌≡◌, List, ℕ, ◌≤◌, Result, length}
-use Rattle.model.specs.Limits.{exchange_limit, record_size, proof_limit}
+use Rattle.model.specs.Limits.{record_size, proof_limit}
 use Rattle.model.specs.Questions.{done}
 use Rattle.model.specs.Transfers.{exchange_of}
 use Rattle.model.specs.Proof.{judge_chain}
@@ -8,10 +8,6 @@ use Rattle.answers.specs.declared.Refusal.{Refusal}
 use Rattle.answers.specs.View.{answer_of}
 use Rattle.rulebook.specs.View.{book_of}
 use Rattle.rulebook.specs.declared.Tables.{Tables}
-
--- an exchange within its limit
-abbrev pub Short : List ℕ → Type 0
-Short e = length e ≤ exchange_limit
 
 -- a proof that question 14 passes
 pub record Recorded (p : List ℕ) : Type 0 where

@@ -22,17 +22,17 @@ use Rattle.answers.proofs.Numbers.{number_positive}
 use Rattle.judge.proofs.records.question.Goals as goal
 use Rattle.judge.proofs.records.question.Goals.{After-rule_question, Else-not-is_claimable, Else-not-is_within}
 
-met15 : (c : Else-not-is_claimable) → let a = c.args in is_claimable a.marks.now (transfer_count a.exchange.now) (claim a.rec.bytes.now) ≡ true
+met15 : (c : Else-not-is_claimable) → let a = c.args in is_claimable a.notes.now.claimed (transfer_count a.notes.now.gifts.exchange.bytes.now) (claim a.rec.bytes.now) ≡ true
 met15 c = rw (← c.claim-claim.ensures) (sym c.is_claimable.ensures ∙ c.if-not-is_claimable.false)
 
 met16 : (c : Else-not-is_within) → let a = c.args in within (rule_number a.rec.bytes.now) (rule_count a.tables.now.rules) ≡ true
 met16 c = rw (← c.rule_count.ensures, ← c.rule-number.ensures) (sym c.is_within.ensures ∙ c.if-not-is_within.false)
 
-claim_bounds : (c : Else-not-is_within) → let a = c.args in (1 ≤ claim a.rec.bytes.now) × (claim a.rec.bytes.now ≤ transfer_count a.exchange.now)
+claim_bounds : (c : Else-not-is_within) → let a = c.args in (1 ≤ claim a.rec.bytes.now) × (claim a.rec.bytes.now ≤ transfer_count a.notes.now.gifts.exchange.bytes.now)
 claim_bounds c =
     let a = c.args in
     let k = claim a.rec.bytes.now in
-    let n = transfer_count a.exchange.now in
+    let n = transfer_count a.notes.now.gifts.exchange.bytes.now in
     within-true k n (both_true (within k n) _ (met15 (goal.at.Else-not-is_within c).Else-not-is_claimable)).0
 
 rule_bounds : (c : Else-not-is_within) → let a = c.args in (1 ≤ rule_number a.rec.bytes.now) × (rule_number a.rec.bytes.now ≤ rule_count a.tables.now.rules)
@@ -40,15 +40,15 @@ rule_bounds c = let a = c.args in within-true (rule_number a.rec.bytes.now) (rul
 
 -- the answer by what the rule's questions answered
 asked : (c : After-rule_question) → let a = c.args in let q = unmet_of c.rule_question.result in
-    first_unmet (questions15to20 a.tables.now.cards a.tables.now.rules a.exchange.now a.rec.bytes.now a.marks.now a.left a.records) ≡ cond (eqb q 0) (cond (is_linked a.left (next a.rec.bytes.now) a.records) 0 20) q
+    first_unmet (questions15to20 a.tables.now.cards a.tables.now.rules a.notes.now.gifts.exchange.bytes.now a.rec.bytes.now a.notes.now.claimed a.left a.records) ≡ cond (eqb q 0) (cond (is_linked a.left (next a.rec.bytes.now) a.records) 0 20) q
 asked c =
     let a = c.args in
     let claim-is = c.claim-claim.ensures in
     let rule-is = c.rule-number.ensures in
     let number : min (rule_number a.rec.bytes.now) rule_limit ≡ rule_number a.rec.bytes.now = omega (arith, rule_bounds (goal.at.After-rule_question c).Else-not-is_within, rules_small a.tables.now.rules) in
-    let transfer = rw claim-is at c.transfer_at-claimed.ensures ∙ here _ _ (omega (arith, claim_bounds (goal.at.After-rule_question c).Else-not-is_within)) in
+    let transfer = rw (c.exchange.ensures, c.from.ensures, claim-is) at c.transfer_at-claimed.ensures ∙ here _ _ (omega (arith, claim_bounds (goal.at.After-rule_question c).Else-not-is_within)) in
     let q = rw (c.row_at-row.ensures, rule-is, number, transfer) at c.rule_question.ensures in
-    record_unmet a.tables.now.cards a.tables.now.rules a.exchange.now a.rec.bytes.now a.marks.now a.left a.records _ (met15 (goal.at.After-rule_question c).Else-not-is_claimable) (met16 (goal.at.After-rule_question c).Else-not-is_within) (sym q)
+    record_unmet a.tables.now.cards a.tables.now.rules a.notes.now.gifts.exchange.bytes.now a.rec.bytes.now a.notes.now.claimed a.left a.records _ (met15 (goal.at.After-rule_question c).Else-not-is_claimable) (met16 (goal.at.After-rule_question c).Else-not-is_within) (sym q)
 
 pub returns-then-not-is_claimable : goal.returns-then-not-is_claimable
 unfolding questions15to20
@@ -59,8 +59,8 @@ unfolding questions15to20
 returns-then-not-is_within c =
     rw (met15 (goal.at.returns-then-not-is_within c).Else-not-is_claimable, ← c.rule_count.ensures, ← c.rule-number.ensures, sym c.is_within.ensures ∙ c.if-not-is_within.true)
 
-pub overflow_sub-claim : goal.overflow_sub-claim
-overflow_sub-claim c = omega (arith, claim_bounds (goal.at.overflow_sub-claim c).Else-not-is_within, c.claim-claim.ensures)
+pub overflow_sub-from : goal.overflow_sub-from
+overflow_sub-from c = omega (arith, claim_bounds (goal.at.overflow_sub-from c).Else-not-is_within, c.claim-claim.ensures, c.from.ensures)
 
 pub returns-in_err-rule_question : goal.returns-in_err-rule_question
 returns-in_err-rule_question c =

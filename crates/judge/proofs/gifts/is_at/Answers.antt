@@ -1,6 +1,6 @@
 -- The transfer at the place, or that of zeros, compared.
 use Rattle.model.specs.Transfers.{eq_transfer}
-use Rattle.judge.proofs.prices.is_at.Goals as goal
+use Rattle.judge.proofs.gifts.is_at.Goals as goal
 
 pub returns : goal.returns
 unfolding eq_transfer
