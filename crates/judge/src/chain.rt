@@ -19,7 +19,8 @@ pub(crate) fn follow(tables: &Tables, exchange: Exchange, proof: &[u8]) -> Resul
     for i in 0..n {
         let rec = Record::at(proof, next);
         let asked = question(tables, &notes, rec, n - (i + 1), records);
-        asked.map_err(|reason| reason.at(u32::from(next)))?;
+        let place = u32::from(next);
+        asked.map_err(|reason| reason.at(place))?;
         notes.note(&tables.rules, rec);
         next = rec.next();
     }

@@ -29,6 +29,10 @@ in_condition row v i = (eqb (group_asked row i) 0 && eqb v (first_name row i)) |
 unfoldable pub in_rule : List ℕ → ℕ → Bool
 in_rule row v = eqb v (row_head row) || (any (in_price row v) (below (row_price_count row)) || any (in_condition row v) (below (row_condition_count row)))
 
+-- the two names that are told of each price or condition i pass the test, and no other variable
+abbrev pub Tells : (ℕ → ℕ × ℕ → Type 0) → (ℕ → ℕ → Bool) → Type 0
+Tells told used = (i : ℕ) (names : ℕ × ℕ) → i < 256 → told i names → (v : ℕ) → used v i ≡ (eqb v names.0 || eqb v names.1)
+
 -- the marks of a to h before and after the variables that pass the test are marked
 pub record Marks (p : ℕ → Bool) (before after : List Bool) : Type 0 where
   pub size : length after ≡ length before
