@@ -18,12 +18,11 @@ fn is_known(number: CardNumber, cards: &CardTable) -> bool
     ensures { result ≡ any (eq_list (digits_in number)) (cards_of cards.now) }
 {
     let n = number.count as u8;
-    let digits = number.digits;
     let mut known = false;
     'cards: for i in 0..layout::card_count(cards) {
-        // To a constant bound, so that the compiler unrolls the loop.
-        for d in 0..limits::MOST_DIGITS {
-            if (d < n) & (layout::digit_at(cards, i + 1, d) != digits[d as usize]) {
+        // All 19 places, so that the compiler unrolls the loop.
+        for (d, digit) in number.digits.iter().enumerate() {
+            if (d < number.count) & (layout::digit_at(cards, i + 1, d as u8) != *digit) {
                 continue 'cards;
             }
         }
