@@ -17,7 +17,6 @@ fn is_known(number: CardNumber, cards: &CardTable) -> bool
     requires { number.count ≤ most_digits }
     ensures { result ≡ any (eq_list (digits_in number)) (cards_of cards.now) }
 {
-    let n = number.count as u8;
     let mut known = false;
     'cards: for i in 0..layout::card_count(cards) {
         // All 19 places, so that the compiler unrolls the loop.
@@ -26,7 +25,7 @@ fn is_known(number: CardNumber, cards: &CardTable) -> bool
                 continue 'cards;
             }
         }
-        if layout::card_length(cards, i + 1) == n {
+        if usize::from(layout::card_length(cards, i + 1)) == number.count {
             known = true;
             break 'cards;
         }

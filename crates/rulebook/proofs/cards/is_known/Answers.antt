@@ -70,7 +70,7 @@ read_length c =
 pub cards-preserved : goal.cards-preserved
 cards-preserved c =
     let at = goal.at.cards-preserved c in (
-      other_length c.args.cards.now (digits_in c.args.number) c.cards.i c.cards.invariant.0 (λ e. c.if-card_length-n.false (read_length at.After-card_length ∙ e ∙ long at.At-loop-d)),
+      other_length c.args.cards.now (digits_in c.args.number) c.cards.i c.cards.invariant.0 (λ e. c.if-from-number.false (c.from.ensures ∙ read_length at.After-card_length ∙ e ∙ long at.At-loop-d)),
       c.cards.invariant.1,
     )
 
@@ -79,9 +79,9 @@ returns-after-cards c =
     let all : c.cards.i ≡ c.card_count-i-end.result = search rules in
     c.cards.invariant.1 ∙ sym (rw (all, c.card_count-i-end.ensures) at c.cards.invariant.0)
 
-pub returns-then-card_length-n : goal.returns-then-card_length-n
-returns-then-card_length-n c =
-    let at = goal.at.returns-then-card_length-n c in
+pub returns-then-from-number : goal.returns-then-from-number
+returns-then-from-number c =
+    let at = goal.at.returns-then-from-number c in
     let cards = c.args.cards.now in
     sym (equal_card cards (digits_in c.args.number) c.cards.i c.cards.invariant.0 (card_count cards) (omega (arith, c.card_count-i-end.ensures, c.cards-test.true))
-    (sym (read_length at.After-card_length) ∙ c.if-card_length-n.true ∙ sym (long at.At-loop-d)) (same_digits at.After-loop-d))
+    (sym (c.from.ensures ∙ read_length at.After-card_length) ∙ c.if-from-number.true ∙ sym (long at.At-loop-d)) (same_digits at.After-loop-d))
