@@ -6,7 +6,7 @@ use Prim.Native.Nat.{ℕ, suc, ◌+◌, ◌*◌, ◌-◌, ◌≤◌, ◌<◌}
 use native.Mathlib.Omega.{arith}
 use lib.Dec.{eqb, leb, ltb}
 use lib.ListN.{length, get_or}
-use borrow.Author.Tests.{lt-ltb, le-ltb, le-leb, lt-leb, leb-true}
+use borrow.Author.Tests.{lt-ltb, le-ltb, le-leb, leb-true}
 use Rattle.model.specs.Limits.{least_digits, most_digits}
 use Rattle.model.specs.Lists.{any, eq_list}
 use Rattle.model.specs.Questions.{Question, first_unmet}
@@ -17,7 +17,7 @@ use Rattle.model.proofs.Tests.{both_true}
 use Rattle.model.proofs.Places.{up_to_length}
 use Rattle.answers.specs.View as answers
 use Rattle.answers.specs.declared.Reason.{Reason}
-use Rattle.answers.specs.declared.Reason.TheVariants.{NoForm, TooManyCards, BadCardNumber, CardRepeated, CardNotAbove, TooManyRules}
+use Rattle.answers.specs.declared.Reason.TheVariants.{TooManyCards, BadCardNumber, CardRepeated, TooManyRules}
 use Rattle.std.specs.Prelude.{Ok, Err}
 use Rattle.rulebook.specs.View.{card_count, rule_count, card_view, cards_of}
 use Rattle.rulebook.specs.inner.Rows.{row_of}
@@ -98,53 +98,33 @@ takes e a = record { first = e; added = a; kept = tt }
 pub how_many : (cards : List ℕ) → length (cards_of cards) ≡ card_count cards
 how_many cards = up_to_length (λ i. card_view cards (suc i)) (card_count cards)
 
-module _ {w cards : List ℕ} where
-  pub card_no_form : is_card_line w ≡ false → CardTaken w cards (Err NoForm) cards
-  card_no_form e = record { asked = refuses (rw e) }
+module _ {w cards : List ℕ} (formed : is_card_line w ≡ true) where
+  pub cards_full : 32 ≤ card_count cards → CardTaken w cards (Err TooManyCards) cards
+  cards_full l = record { asked = refuses (rw (formed, how_many cards, le-ltb (card_count cards) 32 l)) }
 
-  module _ (formed : is_card_line w ≡ true) where
-    pub cards_full : 32 ≤ card_count cards → CardTaken w cards (Err TooManyCards) cards
-    cards_full l = record { asked = refuses (rw (formed, how_many cards, le-ltb (card_count cards) 32 l)) }
+  module _ (room : card_count cards < 32) where
+    pub card_wrong : is_card_number (card_digits (card_read w)) ≡ false → CardTaken w cards (Err BadCardNumber) cards
+    card_wrong e = record { asked = refuses (rw (formed, how_many cards, lt-ltb (card_count cards) 32 room, e)) }
 
-    module _ (room : card_count cards < 32) where
-      pub card_wrong : is_card_number (card_digits (card_read w)) ≡ false → CardTaken w cards (Err BadCardNumber) cards
-      card_wrong e = record { asked = refuses (rw (formed, how_many cards, lt-ltb (card_count cards) 32 room, e)) }
+    module _ (number : is_card_number (card_digits (card_read w)) ≡ true) where
+      pub card-repeated : any (eq_list (card_digits (card_read w))) (cards_of cards) ≡ true → CardTaken w cards (Err CardRepeated) cards
+      card-repeated e = record { asked = refuses (rw (formed, how_many cards, lt-ltb (card_count cards) 32 room, number, e)) }
 
-      module _ (number : is_card_number (card_digits (card_read w)) ≡ true) where
-        pub card-repeated : any (eq_list (card_digits (card_read w))) (cards_of cards) ≡ true → CardTaken w cards (Err CardRepeated) cards
-        card-repeated e = record { asked = refuses (rw (formed, how_many cards, lt-ltb (card_count cards) 32 room, number, e)) }
-
-        pub card-taken : any (eq_list (card_digits (card_read w))) (cards_of cards) ≡ false → {cards' : List ℕ} → CardAdded (card_digits (card_read w)) cards cards' → CardTaken w cards (Ok tt) cards'
-        card-taken e a = record { asked = takes (rw (formed, how_many cards, lt-ltb (card_count cards) 32 room, number, e)) a }
+      pub card-taken : any (eq_list (card_digits (card_read w))) (cards_of cards) ≡ false → {cards' : List ℕ} → CardAdded (card_digits (card_read w)) cards cards' → CardTaken w cards (Ok tt) cards'
+      card-taken e a = record { asked = takes (rw (formed, how_many cards, lt-ltb (card_count cards) 32 room, number, e)) a }
 
 -- ---- a group line
 
-module _ {w cards : List ℕ} where
-  pub group_no_form : is_group_line w ≡ false → GroupTaken w cards (Err NoForm) cards
-  group_no_form e = record { asked = refuses (rw e) }
-
-  module _ (formed : is_group_line w ≡ true) where
-    pub group-not_above : card_count cards < number_at w 4 → GroupTaken w cards (Err CardNotAbove) cards
-    group-not_above l =
-        record { asked = refuses (rw (formed, le-leb 1 (number_at w 4) (grouped w formed).card-low, lt-leb (number_at w 4) (card_count cards) l)) }
-
-    pub group-taken : number_at w 4 ≤ card_count cards → {cards' : List ℕ} → MemberAdded (group_of (get_or w 2 0)) (number_at w 4) cards cards' → GroupTaken w cards (Ok tt) cards'
-    group-taken l a = record { asked = takes (rw (formed, le-leb 1 (number_at w 4) (grouped w formed).card-low, le-leb (number_at w 4) (card_count cards) l)) a }
+module _ {w cards : List ℕ} (formed : is_group_line w ≡ true) where
+  pub group-taken : number_at w 4 ≤ card_count cards → {cards' : List ℕ} → MemberAdded (group_of (get_or w 2 0)) (number_at w 4) cards cards' → GroupTaken w cards (Ok tt) cards'
+  group-taken l a = record { asked = takes (rw (formed, le-leb 1 (number_at w 4) (grouped w formed).card-low, le-leb (number_at w 4) (card_count cards) l)) a }
 
 -- ---- a rule line
 
-module _ {w : List ℕ} {cards : ℕ} {rules : List ℕ} where
-  pub rule_no_form : is_rule_line w ≡ false → RuleTaken w cards rules (Err NoForm) rules
-  rule_no_form e = record { asked = refuses (rw e) }
+module _ {w : List ℕ} {cards : ℕ} {rules : List ℕ} (formed : is_rule_line w ≡ true) (above : number_at w 2 ≤ cards) where
+  pub rules_full : 56 ≤ rule_count rules → RuleTaken w cards rules (Err TooManyRules) rules
+  rules_full l =
+      record { asked = refuses (rw (formed, le-leb 1 (number_at w 2) (owner-low w formed), le-leb (number_at w 2) cards above, le-ltb (rule_count rules) 56 l)) }
 
-  module _ (formed : is_rule_line w ≡ true) where
-    pub rule-not_above : cards < number_at w 2 → RuleTaken w cards rules (Err CardNotAbove) rules
-    rule-not_above l = record { asked = refuses (rw (formed, le-leb 1 (number_at w 2) (owner-low w formed), lt-leb (number_at w 2) cards l)) }
-
-    module _ (above : number_at w 2 ≤ cards) where
-      pub rules_full : 56 ≤ rule_count rules → RuleTaken w cards rules (Err TooManyRules) rules
-      rules_full l =
-          record { asked = refuses (rw (formed, le-leb 1 (number_at w 2) (owner-low w formed), le-leb (number_at w 2) cards above, le-ltb (rule_count rules) 56 l)) }
-
-      pub rule-taken : rule_count rules < 56 → {rules' : List ℕ} → RuleAdded (row_of w) rules rules' → RuleTaken w cards rules (Ok tt) rules'
-      rule-taken l a = record { asked = takes (rw (formed, le-leb 1 (number_at w 2) (owner-low w formed), le-leb (number_at w 2) cards above, lt-ltb (rule_count rules) 56 l)) a }
+  pub rule-taken : rule_count rules < 56 → {rules' : List ℕ} → RuleAdded (row_of w) rules rules' → RuleTaken w cards rules (Ok tt) rules'
+  rule-taken l a = record { asked = takes (rw (formed, le-leb 1 (number_at w 2) (owner-low w formed), le-leb (number_at w 2) cards above, lt-ltb (rule_count rules) 56 l)) a }
