@@ -3,7 +3,7 @@ ghost use Rattle.std.specs.Prelude.{◌≤◌};
 
 use engine::{Called, Engine};
 
-pub(crate) fn repeat<F: FnMut(&Engine) -> Called>(
+pub(crate) fn repeat<F: FnMut(Engine) -> Called>(
     engine: &mut Engine,
     times: u32,
     mut call: F,
@@ -14,7 +14,7 @@ pub(crate) fn repeat<F: FnMut(&Engine) -> Called>(
     let mut next = *engine;
     let mut count = 0;
     for i in 0..times {
-        let called = call(&next);
+        let called = call(next);
         count += u32::from(called.reply.is_ok());
         next = called.engine;
     }
@@ -22,7 +22,7 @@ pub(crate) fn repeat<F: FnMut(&Engine) -> Called>(
     count
 }
 
-// The same loop by itself: a closure would clear the two engines that it passes on at each settlement, 13,615 instructions for 3,000.
+// The same loop by itself: through a closure a settlement of three takes 3,225 instructions in place of 2,519.
 pub(crate) fn repeat_settle(engine: &mut Engine, exchange: &[u8], proof: &[u8], times: u32) -> u32
     ensures { result ≤ times }
 {

@@ -19,10 +19,10 @@ const REPEATS: u32 = 100_000;
 fn perform(engine: &mut Engine, line: &[u8], times: u32) -> u32 {
     match commands::read(line) {
         Some(Command::Issue { card, kind, count }) => repeat(engine, times, |next| {
-            engine::issue(*next, Account { card, kind }, count)
+            engine::issue(next, Account { card, kind }, count)
         }),
         Some(Command::Redeem { card, kind, count }) => repeat(engine, times, |next| {
-            engine::redeem(*next, Account { card, kind }, count)
+            engine::redeem(next, Account { card, kind }, count)
         }),
         Some(Command::Query { card, kind }) => ask(engine, Account { card, kind }, times),
         Some(Command::Settle { exchange, proof }) => settle(engine, exchange, proof, times),
@@ -34,7 +34,7 @@ fn perform(engine: &mut Engine, line: &[u8], times: u32) -> u32 {
 fn ask(engine: &mut Engine, first: Account, times: u32) -> u32 {
     let mut account = first;
     repeat(engine, times, |next| {
-        let called = engine::holding(*next, account);
+        let called = engine::holding(next, account);
         account.kind = match called.reply {
             Ok(Told::Holding(held)) => held,
             _ => 0,
