@@ -1,17 +1,33 @@
 -- What the parts of the call promise.
-use Rattle.std.specs.Prelude.{◌≡◌, Bool, List, ℕ}
+use Rattle.std.specs.Prelude.{◌≡◌, ◌≢◌, Bool, List, ℕ, Result, Ok, Err, length}
+use Rattle.model.specs.Limits.{holding_count}
 use Rattle.model.specs.Book.{Book}
 use Rattle.rulebook.specs.View.{book_of}
+use Rattle.rulebook.specs.declared.Tables.{Tables}
 use Rattle.accounts.specs.View.{state_from}
 use Rattle.accounts.specs.Answered.{Declares}
-use Rattle.answers.specs.View.{refusal_number}
-use Rattle.till.specs.Call.{undeclared_zero, reply_over, left_by}
+use Rattle.answers.specs.View.{reply_of}
+use Rattle.answers.specs.declared.Reason.{Reason}
+use Rattle.answers.specs.declared.Reason.TheVariants.{BadHoldings}
+use Rattle.answers.specs.declared.Refusal.{Refusal}
+use Rattle.answers.specs.declared.Told.{Told}
+use Rattle.till.specs.Call.{undeclared_zero, reply_over, till_reply, left_by}
+
+-- the first test of question 24, and the copy where it is met
+abbrev pub ReadFrom : List ℕ → Result (List ℕ) Reason → Type 0
+ReadFrom h (Ok copy) = (length h ≡ holding_count) × (copy ≡ h)
+ReadFrom h (Err why) = (length h ≢ holding_count) × (why ≡ BadHoldings)
 
 -- the second test of question 24, of any book with so many cards
 abbrev pub UndeclaredTest : ℕ → List ℕ → Bool → Type 0
 UndeclaredTest declared h r = (b : Book) → Declares declared b → r ≡ undeclared_zero b (state_from h)
 
 -- questions 24 and 12 to 23
-pub record SettlesOver (cards rules h x p : List ℕ) (r : ℕ) (h' : List ℕ) : Type 0 where
-  pub answers : r ≡ refusal_number (reply_over (book_of cards rules) h x p)
-  pub leaves : h' ≡ left_by (reply_over (book_of cards rules) h x p) h x p
+pub record SettlesOver (tables : Tables) (h x p : List ℕ) (reply : Result Told Refusal) (h' : List ℕ) : Type 0 where
+  pub answers : reply_of reply ≡ reply_over (book_of tables.cards tables.rules) h x p
+  pub leaves : h' ≡ left_by (reply_over (book_of tables.cards tables.rules) h x p) h x p
+
+-- questions 1 to 7 before them
+pub record Replies (text h x p : List ℕ) (reply : Result Told Refusal) (h' : List ℕ) : Type 0 where
+  pub answers : reply_of reply ≡ till_reply text h x p
+  pub leaves : h' ≡ left_by (till_reply text h x p) h x p

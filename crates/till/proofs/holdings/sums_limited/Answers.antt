@@ -1,18 +1,18 @@
--- `LimitedTo` says of how many kinds the sum is at most the limit.
-use native.Mathlib.Omega.{arith}
-use Rattle.till.proofs.HoldingLaws.{limited_none, limited_more, limited_fails, limited_all}
+-- The chain asks each kind's sum.
+use borrow.Author.Rules.{rules}
+use Prim.Native.Nat.{ℕ, suc, ◌+◌}
+use native.Mathlib.Numerals.{add-one}
+use mathlib.Core.Path.{refl, ap, ◌∙◌}
+use Rattle.model.specs.Lists.{every}
+use Rattle.model.proofs.Places.{up_to_cong}
+use Rattle.model.proofs.Ranges.{all_places}
+use Rattle.till.specs.Call.{sums_limited}
+use Rattle.till.proofs.HoldingLaws.{limited}
 use Rattle.till.proofs.holdings.sums_limited.Goals as goal
 
-pub loop-i-init : goal.loop-i-init
-loop-i-init c = limited_none _
-
-pub returns-then-kind_sum-gt-SUM_LIMIT : goal.returns-then-kind_sum-gt-SUM_LIMIT
-returns-then-kind_sum-gt-SUM_LIMIT c =
-    limited_fails _ _ _ c.loop-i.invariant c.loop-i-test.true c.kind_sum.ensures.0 c.if-kind_sum-gt-SUM_LIMIT.true
-
-pub loop-i-preserved : goal.loop-i-preserved
-loop-i-preserved c =
-    limited_more _ _ _ c.loop-i.invariant c.loop-i-test.true c.kind_sum.ensures.0 c.if-kind_sum-gt-SUM_LIMIT.false
-
 pub returns : goal.returns
-returns c = limited_all _ _ c.loop-i.invariant (omega arith)
+unfolding sums_limited
+returns c =
+    let h = c.args.holdings.now in
+    all_places (λ (i : ℕ). i + 1) (limited h) 16 _ _ refl (λ x b q k. search rules) _ c.all.ensures.ran
+    ∙ ap (every (limited h)) (up_to_cong (λ (i : ℕ). i + 1) suc 16 (λ i l. add-one i))

@@ -1,15 +1,17 @@
 -- `ZeroTo` says what is known of the undeclared cards' numbers that were asked.
 use native.Mathlib.Omega.{arith}
-use Rattle.till.proofs.HoldingLaws.{zero-none, zero_more, zero_all}
+use Rattle.std.proofs.Common.{refl, ◌-◌, drop, length-take, length-drop}
+use Rattle.till.proofs.HoldingLaws.{zero_none, zero_turn, zero_all}
 use Rattle.till.proofs.holdings.undeclared_zero.Goals as goal
 
-pub loop-i-init : goal.loop-i-init
-loop-i-init c = zero-none _ _ c.declared_end-i.ensures.1
+pub loop-held-init : goal.loop-held-init
+loop-held-init c = zero_none _ _
 
-pub loop-i-preserved : goal.loop-i-preserved
-loop-i-preserved c = zero_more _ _ _ _ c.loop-i.invariant (omega arith)
+pub loop-held-preserved : goal.loop-held-preserved
+loop-held-preserved c = zero_turn _ _ _ _ _ _ c.declared_end.ensures c.loop-held-test.true c.loop-held.invariant
 
 pub returns : goal.returns
 returns c =
-    let start = c.declared_end-i in
-    zero_all _ _ _ start.ensures.0 _ _ c.loop-i.invariant (omega arith)
+    let h = c.args.holdings.now in
+    let n = c.declared_end.result in
+    zero_all _ _ _ refl _ _ c.loop-held.invariant (omega (arith, c.declared_end.ensures, length-take (512 - n) (drop n h), length-drop n h))

@@ -1,10 +1,8 @@
 -- `ZeroTo` says what is known of the undeclared cards' numbers that were asked.
-use Prim.Native.Nat.{◌-◌}
+use Rattle.std.proofs.Common.{◌*◌, min}
+use Rattle.model.specs.Limits.{card_limit, kind_count}
 use Rattle.till.proofs.HoldingLaws.{ZeroTo}
 use Rattle.till.proofs.holdings.undeclared_zero.Given as goal
 
-abbrev pub invariant-loop-i : goal.invariant-loop-i
-invariant-loop-i l = ZeroTo l.holdings l.zero l.initial.i l.i
-
-abbrev pub decreases-loop-i : goal.decreases-loop-i
-decreases-loop-i l = 512 - l.i
+abbrev pub invariant-loop-held : goal.invariant-loop-held
+invariant-loop-held l = ZeroTo l.zero l.holdings (min l.declared card_limit * kind_count) l.held-index
