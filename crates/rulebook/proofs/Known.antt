@@ -19,8 +19,8 @@ use Rattle.rulebook.specs.View.{card_length, digit_at, card_view}
 
 eq_list_true : (xs ys : List ℕ) → eq_list xs ys ≡ true → xs ≡ ys
 eq_list_true [] [] p = refl
-eq_list_true [] (y ∷ ys) p = absurd (let z : ◌≡◌ {A = ℕ} 0 1 = cc in omega arith)
-eq_list_true (x ∷ xs) [] p = absurd (let z : ◌≡◌ {A = ℕ} 0 1 = cc in omega arith)
+eq_list_true [] (y ∷ ys) p = cc
+eq_list_true (x ∷ xs) [] p = cc
 eq_list_true (x ∷ xs) (y ∷ ys) p =
     let both = both_true (eqb x y) (eq_list xs ys) p in
     let first = eqb-true x y both.0 in
