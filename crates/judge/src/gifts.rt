@@ -14,7 +14,8 @@ fn is_at(exchange: &[u8], j: usize, t: Transfer) -> bool
     t == transfer_at(exchange, j)
 }
 
-// The first transfer that each card gives, or the number of transfers for a card that gives none.
+// The first transfer that each card gives, or the number of transfers for a card that gives none: a search from there on meets no transfer,
+// so that no card needs a case of its own. The places are counted, since they are what is noted.
 fn first_gifts(exchange: Exchange) -> [u8; 256]
     ensures { FirstGifts exchange.entry.bytes.now (transfer_count exchange.entry.bytes.now) result }
 {
@@ -30,7 +31,7 @@ fn first_gifts(exchange: Exchange) -> [u8; 256]
 
 // An exchange with each card's first gift. A transfer is sought from its giver's first on, so that an exchange in which each card gives one
 // is not walked for each price.
-#[derive(Clone, Copy)]
+#[derive(Drop)]
 pub(crate) struct Gifts<'a> {
     pub(crate) exchange: Exchange<'a>,
     firsts: [u8; 256],

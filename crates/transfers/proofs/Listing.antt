@@ -16,8 +16,7 @@ use Rattle.model.specs.Limits.{exchange_limit}
 use Rattle.model.specs.Lists.{one_if, up_to}
 use Rattle.model.specs.Transfers.{Transfer, eq_transfer, same, count, transfer_at, exchange_of, no_transfer}
 use Rattle.model.proofs.Places.{all_equal, up_to_length, up_to_at, up_to_cong}
-use Rattle.model.proofs.Loops.{count-more, occurs_at}
-use Rattle.model.proofs.Counting.{count_le}
+use Rattle.model.proofs.Loops.{occurs_at}
 use Rattle.model.proofs.Tests.{lt_or_ge}
 use Rattle.transfers.specs.View.{transfer_of, transfers_of, transfer_count, list_size, Listed}
 use Rattle.transfers.specs.declared.Transfer as declared
@@ -55,16 +54,6 @@ module _ (xs : List declared.Transfer) where
   prefix≡ zero l = refl
   prefix≡ (suc i) l =
       ap transfers_of (take-suc xs i zeros l) ∙ map_last (take i xs) (get_or xs i zeros) ∙ ap (λ (r : List Transfer). r ++ (placed i ∷ [])) (prefix≡ i (omega arith))
-
-  module _ (t : Transfer) where
-    pub count_next : (i : ℕ) → i < length xs → count t (transfers_of (take (i + 1) xs)) ≡ count t (transfers_of (take i xs)) + same t (placed i)
-    count_next i l = rw (prefix≡ (i + 1) (omega arith), prefix≡ i (omega arith)) (count-more t placed i)
-
-    pub count_small : (i : ℕ) → i ≤ length xs → count t (transfers_of (take i xs)) ≤ i
-    count_small i l = rw (prefix≡ i l) (omega (arith, count_le t (up_to placed i), up_to_length placed i))
-
-    pub count_all : count t (transfers_of (take (length xs) xs)) ≡ count t (transfers_of xs)
-    count_all = ap (λ (r : List declared.Transfer). count t (transfers_of r)) (take-length xs)
 
   -- the transfer of place j is among the first n
   pub count-some : (n j : ℕ) → j < n → n ≤ length xs → 1 ≤ count (placed j) (transfers_of (take n xs))

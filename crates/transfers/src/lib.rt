@@ -27,7 +27,7 @@ const NO_TRANSFER: Transfer = Transfer {
     receiver: 0,
 };
 
-// Transfer i of the exchange, from 0; zeros where there is none.
+// Transfer i of the exchange, from 0; zeros where there is none, as the definitions have it (`Proof.claimed`), and no caller reads there.
 pub fn transfer_at(exchange: &[u8], i: usize) -> Transfer
     ensures { transfer_of result ≡ get_or (exchange_of exchange.now) i no_transfer }
 {
@@ -60,8 +60,8 @@ pub fn first_improper(declared: u8, exchange: &[u8]) -> Option<usize>
         .map(|i| i + 1)
 }
 
-// The exchange's first 32 transfers, then transfers of zeros. The places have a counter of their own, since `array::from_fn` reads all 32:
-// a settlement of four transfers, one of them asked twice, then takes 24 % more instructions.
+// The exchange's first 32 transfers, then transfers of zeros. The places are counted, since `array::from_fn` would read all 32: judging
+// four transfers of which one is asked twice then takes 24 % more instructions.
 pub fn read_list(exchange: &[u8]) -> [Transfer; LIST_SIZE]
     ensures { Listed exchange.now result }
 {
