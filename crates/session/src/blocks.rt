@@ -13,10 +13,8 @@ fn first_line(block: &[u8]) -> Option<(&[u8], &[u8])>
     ensures { MatchOption result (T (has_no_lf block.now)) (λ parts. FirstLine block.now parts.0.now parts.1.now) }
 {
     let end = ascii::find(block, 0, b'\n');
-    if block.len() <= end {
-        return None;
-    }
-    Some((&block[..end], &block[end + 1..]))
+    let rest = block.get(end + 1..)?;
+    Some((&block[..end], rest))
 }
 
 impl Session {

@@ -12,8 +12,11 @@ use Rattle.session.proofs.blocks.first_line.Goals.{After-find-end}
 place : (c : After-find-end) → c.find-end.result ≡ until (code "\n") c.args.block.now
 place c = omega (arith, c.find-end.ensures.0)
 
-pub returns-then-block-end : goal.returns-then-block-end
-returns-then-block-end c = no-line _ _ (place (goal.at.returns-then-block-end c).After-find-end) c.if-block-end.true
+pub returns-in_err-rest : goal.returns-in_err-rest
+returns-in_err-rest c =
+    rw c.from_residual.ensures (no-line _ _ (place (goal.at.returns-in_err-rest c).After-find-end) (omega (arith, c.in_err-rest.ensures.lookup.0)))
 
 pub returns : goal.returns
-returns c = rw (to_end c.args.block.now (c.find-end.result + 1)) (first-line _ _ (place (goal.at.returns c).After-find-end) c.if-block-end.false)
+returns c =
+    let there = c.in_ok-rest.ensures.lookup.0 in
+    rw (there.2, to_end c.args.block.now (c.find-end.result + 1)) (first-line _ _ (place (goal.at.returns c).After-find-end) (omega (arith, there.0)))
