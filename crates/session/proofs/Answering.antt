@@ -15,7 +15,7 @@ use Rattle.model.specs.Limits.{transfer_size, exchange_limit, record_size, proof
 use Rattle.model.specs.Questions.{refused}
 use Rattle.model.specs.Book.{Book}
 use Rattle.model.specs.Holdings.{State}
-use Rattle.model.specs.Calls.{settle, is_sized, judging, reply_to, after}
+use Rattle.model.specs.Calls.{Call, settle, is_sized, judging, reply_to, after}
 use Rattle.model.proofs.Tests.{lt_or_ge}
 use Rattle.answers.specs.declared.Refusal.{Refusal}
 use Rattle.answers.specs.declared.Told.{Told}
@@ -26,7 +26,9 @@ use Rattle.commands.proofs.Buffers.{filled_count}
 use Rattle.engine.specs.View.{book_in, state_in}
 use Rattle.engine.specs.Contract.{Answers}
 use Rattle.engine.specs.declared.Engine.{Engine}
-use Rattle.engine.proofs.CallLaws.{with_holdings, called}
+use Rattle.engine.proofs.CallLaws.{with_holdings, book-cards, called}
+use Rattle.rulebook.specs.View.{card_count}
+use Rattle.accounts.specs.Answered.{AnsweredFor}
 
 -- ---- bytes in a buffer of one more than their limit
 
@@ -82,6 +84,10 @@ module _ (b : Book) (e p x q : List ℕ) (f : Limited exchange_limit e x) (g : L
         (lt_or_ge exchange_limit (length e))
 
 -- ---- a line over an engine
+
+-- a call on the holdings, which asks of the book how many cards it has
+pub performed : (e : Engine) (call : Call) (r : Result Told Refusal) (h : List ℕ) → AnsweredFor (card_count e.tables.cards) e.holdings call r h → Answers e call r (with_holdings e h)
+performed e call r h a = called e call r h (a _ (book-cards e))
 
 -- the settlement of what the buffers hold is that of the words
 pub settled-words : (e : Engine) (v w x₀ x p₀ p : List ℕ) (n m : ℕ) (r : Result Told Refusal) (h : List ℕ) → length x₀ ≡ suc exchange_limit
