@@ -16,9 +16,9 @@ pub(crate) fn follow(tables: &Tables, exchange: Exchange, proof: &[u8]) -> Resul
     let records = proof.len() / RECORD_SIZE;
     let mut notes = Notes::new(exchange);
     let mut next: u8 = 1;
-    for i in 0..n {
+    for left in (0..n).rev() {
         let rec = Record::at(proof, next);
-        let asked = question(tables, &notes, rec, n - (i + 1), records);
+        let asked = question(tables, &notes, rec, left, records);
         let place = u32::from(next);
         asked.map_err(|reason| reason.at(place))?;
         notes.note(&tables.rules, rec);
