@@ -1,9 +1,8 @@
 // Card lines.
-ghost use Rattle.std.specs.Prelude.{◌≡◌, ◌≤◌, length};
+ghost use Rattle.std.specs.Prelude.{◌≡◌, ◌≤◌};
 ghost use Rattle.model.specs.Limits.{most_digits};
 ghost use Rattle.model.specs.Lists.{any, eq_list};
 ghost use Rattle.forms.specs.Numbers.{digits_in};
-ghost use Rattle.rulebook.specs.Layout.{card_table_size};
 ghost use Rattle.rulebook.specs.View.{cards_of};
 ghost use Rattle.rulebook.specs.inner.Lines.{CardTaken};
 
@@ -12,7 +11,7 @@ use crate::layout::CardTable;
 use answers::Reason;
 use forms::CardNumber;
 
-// Whether a card of the table has the number's digits, each compared from the first on.
+// Whether a card of the table has the number's digits: nested loops, left by the label at the first digit that differs or at the equal card.
 fn is_known(number: CardNumber, cards: &CardTable) -> bool
     requires { number.count ≤ most_digits }
     ensures { result ≡ any (eq_list (digits_in number)) (cards_of cards.now) }

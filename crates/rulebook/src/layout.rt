@@ -1,11 +1,11 @@
 // The layout of the two tables: no other file knows an offset. specs/Layout.antt has the same places, specs/View.antt what they mean.
 //
-// Each table is rows of bytes. Row 0 begins with the number of cards, or of rules; row n is card n's, or rule n's. What is read of a table
+// Each table is rows of bytes in one array of a fixed size, since the engine has no heap. Row 0 begins with the number of cards, or of rules; row n is card n's, or rule n's. What is read of a table
 // is told for every value of it, and for any number of a card, a rule or an entry.
-ghost use Rattle.std.specs.Prelude.{get_or, ◌*◌, ◌^◌, ◌≡◌, ◌+◌, ◌≤◌, ◌<◌, min, length};
+ghost use Rattle.std.specs.Prelude.{get_or, ◌*◌, ◌^◌, ◌≡◌, ◌+◌, ◌≤◌, ◌<◌, min};
 ghost use Rattle.model.specs.Limits.{card_limit, rule_limit, group_count, price_limit, condition_limit, most_digits};
 ghost use Rattle.forms.specs.Numbers.{digits_in};
-ghost use Rattle.rulebook.specs.Layout.{card_table_size, card_byte, entry_size, rule_table_size, rule_row_size, row_at};
+ghost use Rattle.rulebook.specs.Layout.{card_byte, entry_size, row_at};
 ghost use Rattle.rulebook.specs.View.{card_count, card_length, digit_at, member_view, rule_count};
 ghost use Rattle.rulebook.specs.View.{row_owner, row_kind, row_head, row_price_count, row_condition_count};
 ghost use Rattle.rulebook.specs.View.{price_giver, price_kind, price_receiver, group_asked, first_name, second_name};

@@ -27,6 +27,7 @@ pub(crate) fn take_lines(text: &[u8], tables: &mut Tables) -> Result<(), Refusal
     requires { (length text.now ≤ text_limit) × (tables.old ≡ no_tables) }
     ensures { answer_of (tables_book tables.new) result ≡ opening text.now }
 {
+    // What is left, line by line, and not an iterator's `split`: `ascii::find` seeks an LF eight bytes at a time.
     let mut rest = text;
     let mut number = 0;
     while !rest.is_empty() {
