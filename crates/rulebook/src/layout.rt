@@ -1,7 +1,8 @@
 // The layout of the two tables: no other file knows an offset. specs/Layout.antt has the same places, specs/View.antt what they mean.
 //
-// Each table is rows of bytes in one array of a fixed size, since the engine has no heap. Row 0 begins with the number of cards, or of rules; row n is card n's, or rule n's. What is read of a table
-// is told for every value of it, and for any number of a card, a rule or an entry.
+// Each table is rows of bytes in one array of a fixed size, since the engine has no heap. Row 0 begins with the number of cards, or of
+// rules; row n is card n's, or rule n's. What is read of a table is told for every value of it, and for any number of a card, a rule or an
+// entry.
 ghost use Rattle.std.specs.Prelude.{get_or, ◌*◌, ◌^◌, ◌≡◌, ◌+◌, ◌≤◌, ◌<◌, min};
 ghost use Rattle.model.specs.Limits.{card_limit, rule_limit, group_count, price_limit, condition_limit, most_digits};
 ghost use Rattle.forms.specs.Numbers.{digits_in};
