@@ -13,7 +13,7 @@ pub(crate) fn repeat<F: FnMut(Engine) -> Called>(
 {
     let mut next = *engine;
     let mut count = 0;
-    for i in 0..times {
+    for made in 0..times {
         let called = call(next);
         count += u32::from(called.reply.is_ok());
         next = called.engine;
@@ -28,7 +28,7 @@ pub(crate) fn repeat_settle(engine: &mut Engine, exchange: &[u8], proof: &[u8], 
 {
     let mut next = *engine;
     let mut count = 0;
-    for i in 0..times {
+    for made in 0..times {
         let called = engine::settle(next, exchange, proof);
         count += u32::from(called.reply.is_ok());
         next = called.engine;

@@ -14,17 +14,9 @@ const PROOF: [u8; 36] = *b"\x02\x01\x01\0\x02\x03\0\0\0\0\0\0\
 // An engine whose cards hold what the ring asks of them.
 fn holding_engine() -> Engine {
     [(1, 1, 2), (2, 2, 1), (3, 3, 1)]
-        .iter()
+        .into_iter()
         .fold(tell::open(), |next, (card, kind, count)| {
-            engine::issue(
-                next,
-                Account {
-                    card: *card,
-                    kind: *kind,
-                },
-                *count,
-            )
-            .engine
+            engine::issue(next, Account { card, kind }, count).engine
         })
 }
 

@@ -2,5 +2,5 @@
 use Rattle.std.proofs.Common.{◌≤◌}
 use Rattle.bench_calls.proofs.calls.repeat.Given as goal
 
-abbrev pub invariant-loop-i : goal.invariant-loop-i
-invariant-loop-i g l = goal.F-IsAlwaysCallable g l.call × (l.count ≤ l.i)
+abbrev pub invariant-loop-made : goal.invariant-loop-made
+invariant-loop-made g l = goal.F-IsAlwaysCallable g l.call × (l.count ≤ l.made)

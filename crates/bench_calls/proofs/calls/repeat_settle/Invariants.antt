@@ -2,5 +2,5 @@
 use Rattle.std.proofs.Common.{◌≤◌}
 use Rattle.bench_calls.proofs.calls.repeat_settle.Given as goal
 
-abbrev pub invariant-loop-i : goal.invariant-loop-i
-invariant-loop-i l = l.count ≤ l.i
+abbrev pub invariant-loop-made : goal.invariant-loop-made
+invariant-loop-made l = l.count ≤ l.made
