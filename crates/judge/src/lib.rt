@@ -1,6 +1,6 @@
 // An exchange and its proof judged over a rulebook's two tables: questions 12 to 21 of document 01.
-// Modules: `sizes` asks 12 and 14 (crate transfers 13), `records` 15, 16 and 20, `variables` 17, `prices` 18, `conditions` 19, `notes` 21;
-// `chain` takes the records in turn, each with its rule as an `approval`.
+// Modules: `sizes` asks 12 and 14 (crate transfers 13), `notes` 15 and 21, `records` 16 and 20, `variables` 17, `prices` 18, `conditions` 19;
+// `chain` takes the records (`proof`) in turn, each with its rule as an `approval`.
 //
 // The two tables are lent. Any value of them is taken: counts past their limit are cut to it.
 
