@@ -3,7 +3,7 @@
 
 #![tactic(auto)]
 
-ghost use Rattle.std.specs.Prelude.{◌≡◌, min};
+ghost use Rattle.std.specs.Prelude.{◌≡◌};
 ghost use Rattle.model.specs.Lists.{within};
 
 // The most bytes of a rule text.
@@ -40,21 +40,5 @@ pub const PROOF_LIMIT: u16 = 3060;
 pub fn is_within(n: u8, m: u8) -> bool
     ensures { result ≡ within n m }
 {
-    (1 <= n) & (n <= m)
-}
-
-// The smaller of two numbers, at two widths.
-pub fn least(a: usize, b: usize) -> usize
-    ensures { result ≡ min a b }
-{
-    if a <= b { a } else { b }
-}
-
-pub fn at_most(n: u8, most: u8) -> u8
-    ensures { result ≡ min n most }
-{
-    if n <= most {
-        return n;
-    }
-    most
+    (1..=m).contains(&n)
 }
