@@ -15,10 +15,11 @@ pub use hexadecimal::unhex;
 pub use lines::read;
 pub use replies::{put_bad, put_book, put_refused, put_reply};
 
-// No answer is longer.
+// No answer is longer: it is put at the start of a lent buffer, for there is no heap.
 pub const ANSWER_SIZE: usize = 32;
 
-// How many bytes a line may have without its LF, and whether every command is answered or document 01's alone.
+// How many bytes a line may have without its LF, and whether every command is answered or document 01's alone. No enum of the two programs',
+// since what is proved of lines is of every dialect.
 #[derive(Clone, Copy, Debug, PartialEq, Eq)]
 pub struct Dialect {
     pub longest: u32,
