@@ -6,6 +6,7 @@ use Prim.Native.Nat.{ℕ, ◌<◌, min}
 use native.Mathlib.Omega.{arith}
 use lib.ListN.{length, take}
 use lib.Seq.{take_all, take-nil}
+use Rattle.std.proofs.lemmas.List.{take_min}
 use borrow.Author.Tests.{lt-leb}
 use Rattle.engine.specs.View.{book_in, state_in}
 use Rattle.commands.specs.Grammar.{answer_size}
@@ -16,7 +17,6 @@ use Rattle.session.specs.View.{progress_of}
 use Rattle.session.specs.Contract.{Feeds}
 use Rattle.session.specs.inner.Parts.{LineAnswered}
 use Rattle.session.specs.declared.Session.{Session}
-use Rattle.session.proofs.Keeping.{take_least}
 use Rattle.session.proofs.Lines.{last_says}
 
 -- ---- feeding
@@ -42,9 +42,7 @@ module _ (s : Session) (buffer out : List ℕ) (size : ℕ) (z : size ≡ min (m
   kept_line = take (min s.size (line_room s.dialect)) buffer
 
   line_kept : take size buffer ≡ kept_line
-  line_kept =
-      let m : size ≡ min (length buffer) (min s.size (line_room s.dialect)) = omega arith in
-      ap (λ (k : ℕ). take k buffer) m ∙ take_least buffer (min s.size (line_room s.dialect))
+  line_kept = ap (λ (k : ℕ). take k buffer) z ∙ take_min (min s.size (line_room s.dialect)) buffer
 
   pub ends-nothing : length (take size buffer) ≡ 0 → Printed answer_size (end_says s.dialect (book_in s.engine) (progress_of s buffer)) out out 0
   unfolding answers_to
