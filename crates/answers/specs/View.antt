@@ -34,6 +34,11 @@ number_of reason.NotCovered = 22
 number_of reason.HoldingExceeded = 23
 number_of reason.BadHoldings = 24
 
+-- a line or a record refused for a reason, with its number as the place
+abbrev pub placed : ℕ → Result (Unit {0}) Reason → Result (Unit {0}) Refusal
+placed n (Ok done) = Ok done
+placed n (Err why) = Err (record { reason = why; place = n })
+
 -- of an opening; `told` is what it tells where it is not refused
 abbrev pub answer_of : {A : Type 0} → A → Result (Unit {0}) Refusal → model.Answer A
 answer_of told (Ok _) = model.ok told

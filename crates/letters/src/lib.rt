@@ -11,7 +11,7 @@ ghost use Rattle.letters.specs.Letters.{kind_in, variable_in, name_in, group_in,
 const BEFORE_A: u8 = b'A' - 1;
 
 // Variables are numbered from 0, and the name `*` is numbered after them: a name is one byte of a rule's row.
-pub const STAR: u8 = limits::VARIABLE_COUNT;
+const STAR: u8 = limits::VARIABLE_COUNT;
 
 // 1 to 16.
 pub fn kind(x: u8) -> Option<u8>

@@ -22,13 +22,13 @@ use Rattle.rulebook.specs.Reads.{no_tables, Reads, EveryTextReads}
 use Rattle.rulebook.specs.declared.Tables.{Tables}
 use Rattle.std.specs.Prelude.{Result, Ok, Err, ◌⊎◌}
 use Rattle.std.proofs.Common.{inl, inr, ⊎_elim, sym, ap, ◌∙◌}
-use Rattle.answers.specs.View.{answer_of, number_of}
+use Rattle.answers.specs.View.{answer_of, number_of, placed}
 use Rattle.answers.specs.declared.Reason.{Reason}
 use Rattle.answers.specs.declared.Reason.TheVariants as reason
 use Rattle.answers.specs.declared.Refusal.{Refusal}
 use Rattle.rulebook.specs.inner.Writes.{CardAdded, MemberAdded, RuleAdded}
 use Rattle.rulebook.specs.inner.Rows.{row_of}
-use Rattle.rulebook.specs.inner.Lines.{card_questions, group_questions, rule_questions, AddedUnless, at_line, LineTaken}
+use Rattle.rulebook.specs.inner.Lines.{card_questions, group_questions, rule_questions, AddedUnless, LineTaken}
 use Rattle.rulebook.proofs.Written.{row_written, byte_written, card-added, member_added, rule-added}
 use Rattle.rulebook.proofs.Rows.{row-length}
 use Rattle.rulebook.proofs.Grown.{no_tables_lem}
@@ -158,7 +158,7 @@ module _ (ws : List (List ℕ)) (last : List ℕ) (i : ℕ) where
   unfolding open_lines
   line_then l rest = subst (λ (a : Answer Book). Held (and_then a (λ b. open_lines (i + 1) b ws last))) (l.taken.answer i) (go l.result)
     where
-      go : (r : Result (Unit {0}) Reason) → Held (and_then (answer_of (tables_book l.next) (at_line i r)) (λ b. open_lines (i + 1) b ws last))
+      go : (r : Result (Unit {0}) Reason) → Held (and_then (answer_of (tables_book l.next) (placed i r)) (λ b. open_lines (i + 1) b ws last))
       go (Ok _) = rest
       go (Err reason) = not (record { reason = reason; place = i })
 

@@ -17,12 +17,12 @@ use Rattle.model.specs.Book.{Book}
 use Rattle.model.specs.Opening as model
 use Rattle.model.specs.Opening.{open_line, open_lines, opening}
 use Rattle.std.specs.Prelude.{Result, Ok, Err}
-use Rattle.answers.specs.View.{answer_of, number_of}
+use Rattle.answers.specs.View.{answer_of, number_of, placed}
 use Rattle.answers.specs.declared.Reason.{Reason}
 use Rattle.answers.specs.declared.Refusal.{Refusal}
 use Rattle.rulebook.specs.View.{tables_book}
 use Rattle.rulebook.specs.Reads.{no_tables, Reads}
-use Rattle.rulebook.specs.inner.Lines.{at_line, LineTaken}
+use Rattle.rulebook.specs.inner.Lines.{LineTaken}
 use Rattle.rulebook.specs.declared.Tables.{Tables}
 use Rattle.rulebook.proofs.Grown.{no_tables_lem}
 
@@ -93,7 +93,7 @@ module _ {text rest : List ℕ} {i end : ℕ} {t : Tables} (turn : Turn text res
         sym turn.so_far ∙ rw (take_rest rest (end + 1), add-one end, cut_line rest (omega arith), sym e)
 
     -- m: the line's result with its number
-    pub line_says : {r : Result (Unit {0}) Reason} {t' : Tables} → LineTaken line t r t' → (m : Result (Unit {0}) Refusal) → m ≡ at_line i r
+    pub line_says : {r : Result (Unit {0}) Reason} {t' : Tables} → LineTaken line t r t' → (m : Result (Unit {0}) Refusal) → m ≡ placed i r
         → opening text ≡ and_then (answer_of (tables_book t') m) (λ b. open_rest after (i + 1) b)
     line_says taken m e = line_first ∙ rw (sym (taken.answer i), e)
 

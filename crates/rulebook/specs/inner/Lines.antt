@@ -5,9 +5,8 @@ use Rattle.model.specs.Lists.{within, any, eq_list}
 use Rattle.model.specs.Questions.{Question, ◌unless◌, first_unmet}
 use Rattle.model.specs.Reader.{group_of, number_at, is_card_line, card_read, is_group_line, is_rule_line}
 use Rattle.model.specs.Opening.{card_digits, is_card_number, open_line}
-use Rattle.answers.specs.View.{answer_of, number_of}
+use Rattle.answers.specs.View.{answer_of, number_of, placed}
 use Rattle.answers.specs.declared.Reason.{Reason}
-use Rattle.answers.specs.declared.Refusal.{Refusal}
 use Rattle.rulebook.specs.declared.Tables.{Tables}
 use Rattle.rulebook.specs.View.{card_count, rule_count, cards_of, tables_book}
 use Rattle.rulebook.specs.inner.Rows.{row_of}
@@ -52,11 +51,6 @@ pub record RuleTaken (w : List ℕ) (cards : ℕ) (rules : List ℕ) (result : R
 
 -- ---- any line
 
--- a refusal with its line's number
-abbrev pub at_line : ℕ → Result (Unit {0}) Reason → Result (Unit {0}) Refusal
-at_line i (Ok taken) = Ok taken
-at_line i (Err reason) = Err (record { reason = reason; place = i })
-
 -- the line's answer over the book of the tables
 pub record LineTaken (w : List ℕ) (tables : Tables) (result : Result (Unit {0}) Reason) (tables' : Tables) : Type 0 where
-  pub answer : (i : ℕ) → answer_of (tables_book tables') (at_line i result) ≡ open_line i (tables_book tables) w
+  pub answer : (i : ℕ) → answer_of (tables_book tables') (placed i result) ≡ open_line i (tables_book tables) w

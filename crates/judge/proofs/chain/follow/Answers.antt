@@ -11,7 +11,8 @@ use Rattle.rulebook.specs.View.{book_of}
 use Rattle.judge.specs.inner.Counts.{is_paid}
 use Rattle.std.proofs.lemmas.Result.{err_from_is_err_and}
 use Rattle.answers.proofs.Numbers.{number_positive}
-use Rattle.judge.proofs.Asking.{at_record, refused_at, met_at}
+use Rattle.answers.specs.View.{placed}
+use Rattle.judge.proofs.Asking.{refused_at, met_at}
 use Rattle.judge.proofs.Following.{going_first, going_stops, going_ends, Turn, turn_facts}
 use Rattle.model.specs.Questions.{ok, refused, done}
 use Rattle.model.specs.Proof.{record_at, judge_chain}
@@ -30,7 +31,7 @@ turn : (c : In_ok-map_err) → let o = c.loop-left in
     Turn c.args.tables.now.cards c.args.tables.now.rules c.args.exchange.bytes.now c.args.proof.now o.left o.notes c.at-rec.result.bytes.now
 turn c =
     let o = c.loop-left in
-    let told : at_record o.next c.question-asked.result ≡ c.map_err.result = search rules in
+    let told : placed o.next c.question-asked.result ≡ c.map_err.result = search rules in
     let met = met_at o.next c.question-asked.result _ (told ∙ c.in_ok-map_err.was) in
     let q = rw o.invariant.0 at c.question-asked.ensures in
     turn_facts c.args.tables.now.cards c.args.tables.now.rules c.args.exchange.bytes.now c.args.proof.now c.args.exchange.short o.left o.notes o.invariant.0 o.next c.at-rec.result.bytes.now
@@ -64,7 +65,7 @@ returns-in_err-map_err c =
     let o = c.loop-left in
     let p = err_from_is_err_and c.from_residual.result c.from_residual.ensures.1 in
     let why = c.in_err-map_err.field-0.0 in
-    let told : at_record o.next c.question-asked.result ≡ c.map_err.result = search rules in
+    let told : placed o.next c.question-asked.result ≡ c.map_err.result = search rules in
     let w = refused_at o.next c.question-asked.result why (told ∙ c.in_err-map_err.was) in
     let q = rw (o.invariant.0, taken at.After-at-rec, w.0) at c.question-asked.ensures in
     rw (p.1, p.2, q, w.1)
