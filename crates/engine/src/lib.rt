@@ -49,7 +49,7 @@ pub fn open(text: &[u8]) -> Opened
     opened
 }
 
-// The calls have one shape; a helper for it would take the line in which they differ as a closure, and two clauses of what that answers.
+// The calls have one shape; a helper for it would take closures, each with the clauses of its call written once more.
 pub fn issue(mut engine: Engine, account: Account, count: u32) -> Called
     ensures { Answers engine (issue account.card account.kind count) result.reply result.engine }
 {
