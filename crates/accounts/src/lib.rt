@@ -1,6 +1,7 @@
 // Issuing, redeeming and the holding query over the 512 holdings: questions 8 to 11.
 //
-// The holdings are lent and changed in place, so that a call copies none; a refused call changes none.
+// The holdings are lent and changed in place, so that a call copies none; a refused call changes none. They are an array, since the engine
+// has no heap, and the number of declared cards comes beside them: it is the tables', and the holdings are the engine's or the host's.
 
 #![tactic(auto)]
 
@@ -14,6 +15,7 @@ ghost use Rattle.accounts.specs.inner.Refusal.{account_answer};
 
 use answers::{Reason, Refusal, Reply, Told};
 
+// Widened by `as`, since a constant cannot call `From`.
 const KIND_COUNT: u32 = limits::KIND_COUNT as u32;
 
 const KINDS: usize = limits::KIND_COUNT as usize;
