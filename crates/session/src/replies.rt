@@ -34,7 +34,7 @@ pub(crate) fn put_opening(answer: Answer, engine: &Engine, out: &mut [u8; ANSWER
     }
 }
 
-// The settlement of two words of hexadecimal.
+// The settlement of two words of hexadecimal, whose bytes go into fixed memory: nothing is allocated.
 fn settle(engine: &mut Engine, exchange: &[u8], proof: &[u8]) -> Reply
     ensures { Answers engine.old (settle (pair_bytes exchange.now) (pair_bytes proof.now)) result engine.new }
 {
