@@ -1,1 +1,2 @@
+pub mod Improper
 pub mod Listing

@@ -1,5 +1,5 @@
 -- A program's transfers as the model's, and what is told of them.
-use Rattle.std.specs.Prelude.{◌≡◌, List, map, ℕ, ◌/◌, length, get_or}
+use Rattle.std.specs.Prelude.{◌≡◌, List, map, ℕ, zero, suc, ◌/◌, length, get_or, Option, None, Some}
 use Rattle.model.specs.Limits.{transfer_size, exchange_limit}
 use Rattle.model.specs.Lists.{up_to}
 use Rattle.model.specs.Transfers.{Transfer, Exchange, exchange_of, no_transfer}
@@ -14,6 +14,11 @@ transfers_of list = map transfer_of list
 -- how many transfers the bytes hold
 abbrev pub transfer_count : List ℕ → ℕ
 transfer_count e = length e / transfer_size
+
+-- a number from 1 as a program tells it, which the model's 0 stands for when there is none
+abbrev pub told : ℕ → Option ℕ
+told zero = None
+told (suc n) = Some (suc n)
 
 -- as many as an exchange may have
 abbrev pub list_size : ℕ

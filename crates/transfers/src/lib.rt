@@ -2,10 +2,10 @@
 
 #![tactic(auto)]
 
-ghost use Rattle.std.specs.Prelude.{◌≡◌, ◌+◌, not, take, get_or, position};
-ghost use Rattle.std.specs.Option.{option_map};
+ghost use Rattle.std.specs.Prelude.{◌≡◌, take, get_or};
+ghost use Rattle.model.specs.Lists.{first_failing};
 ghost use Rattle.model.specs.Transfers.{count, exchange_of, no_transfer};
-ghost use Rattle.transfers.specs.View.{transfer_of, transfers_of, Listed};
+ghost use Rattle.transfers.specs.View.{transfer_of, transfers_of, told, Listed};
 ghost use Rattle.model.specs.Fairness.{is_proper_of};
 
 const TRANSFER_SIZE: usize = limits::TRANSFER_SIZE as usize;
@@ -52,7 +52,7 @@ fn is_proper(declared: u8, t: Transfer) -> bool
 
 // The number, from 1, of the first transfer that question 13 refuses.
 pub fn first_improper(declared: u8, exchange: &[u8]) -> Option<usize>
-    ensures { result ≡ option_map (λ i. i + 1) (position (λ t. not (is_proper_of declared t)) (exchange_of exchange.now)) }
+    ensures { result ≡ told (first_failing (is_proper_of declared) 1 (exchange_of exchange.now)) }
 {
     let n = exchange.len() / TRANSFER_SIZE;
     (0..n)

@@ -8,6 +8,9 @@ use Rattle.rulebook.specs.View.{book_of}
 use Rattle.judge.proofs.Beginning.{short, recorded, bad, Told, told_some, told_none, chosen, judging≡}
 use Prim.Native.Nat.{◌≤◌}
 use Rattle.transfers.specs.View.{transfer_count}
+use Rattle.transfers.proofs.Improper.{told_place}
+use Rattle.model.specs.Fairness.{is_proper_of}
+use Rattle.model.specs.Transfers.{exchange_of}
 use Rattle.model.specs.Calls.{is_sized, judging}
 use Rattle.judge.proofs.judge.Goals as goal
 use Rattle.judge.proofs.judge.Goals.{In-Some, In_default, After-first_improper, Else-not-is_sized, Else-not-is_sized-2, Start}
@@ -17,7 +20,7 @@ met12 c = sym c.is_sized.ensures ∙ c.if-not-is_sized.false
 
 -- what the chain told of question 13, with the count of cards cut
 told : (c : After-first_improper) → let a = c.args in Told a.tables.now.cards a.exchange.now c.first_improper.result
-told c = rw c.card_count.ensures at c.first_improper.ensures
+told c = rw c.card_count.ensures at (c.first_improper.ensures ∙ told_place (is_proper_of c.card_count.result) (exchange_of c.args.exchange.now))
 
 found : (c : In-Some) → let a = c.args in let k = c.in-Some.bad in
     (bad a.tables.now.cards a.exchange.now ≡ k) × (1 ≤ k) × (k ≤ transfer_count a.exchange.now)
