@@ -1,5 +1,5 @@
 -- What the exported functions' values stand for: a command of a line, and what is left in a lent buffer.
-use Rattle.std.specs.Prelude.{◌≡◌, List, ◌++◌, ℕ, ◌≤◌, min, length, take, drop, Option, Some, None}
+use Rattle.std.specs.Prelude.{◌≡◌, List, ◌++◌, ℕ, ◌≤◌, min, length, take, drop, Option, Some, None, ⊤}
 use Rattle.std.proofs.Math.Option as read
 use Rattle.model.specs.Calls.{Call, issue, redeem, query, settle}
 use Rattle.commands.specs.Reader.{pair_bytes}
@@ -17,6 +17,18 @@ command_of (Settle exchange proof) = settle (pair_bytes exchange.now) (pair_byte
 abbrev pub read_as : {A B : Type 0} → (A → B) → Option A → read.Option B
 read_as f (Some a) = read.some (f a)
 read_as f None = read.none
+
+-- the line is other bytes, then these, then others
+abbrev pub LiesIn : List ℕ → List ℕ → Type 0
+LiesIn s line = (before : List ℕ) × (after : List ℕ) × (line ≡ before ++ (s ++ after))
+
+-- the words of hexadecimal of what is read lie in the line
+abbrev pub WordsIn : List ℕ → Option Command → Type 0
+WordsIn line (Some (Issue m k n)) = ⊤
+WordsIn line (Some (Redeem m k n)) = ⊤
+WordsIn line (Some (Query m k)) = ⊤
+WordsIn line (Some (Settle exchange proof)) = LiesIn exchange.now line × LiesIn proof.now line
+WordsIn line None = ⊤
 
 -- ---- buffers
 

@@ -2,7 +2,7 @@
 ghost use Rattle.std.specs.Prelude.{◌≡◌};
 ghost use Rattle.commands.specs.Dialects.{is_scope_letter, admits, command_in};
 ghost use Rattle.commands.specs.Dialects as dialects;
-ghost use Rattle.commands.specs.View.{read_as, command_of};
+ghost use Rattle.commands.specs.View.{read_as, command_of, WordsIn};
 
 use crate::{Command, Dialect, lines};
 
@@ -47,7 +47,8 @@ fn admits(dialect: Dialect, line: &[u8]) -> bool
 // What a line commands in a dialect, for any bytes: a line that is too long is ill-formed, and a command that the dialect does not have.
 #[tactic(auto, unfolding(crate::specs::Dialects::command_in))]
 pub fn read_in(dialect: Dialect, line: &[u8]) -> Option<Command<'_>>
-    ensures { read_as command_of result ≡ command_in dialect line.now }
+    ensures read { read_as command_of result ≡ command_in dialect line.now }
+    ensures words { WordsIn line.now result }
 {
     if admits(dialect, line) {
         lines::read(line)

@@ -2,7 +2,7 @@
 ghost use Rattle.std.specs.Prelude.{◌≡◌, ◌==◌, ℕ, position};
 ghost use Rattle.model.specs.Calls.{Call};
 ghost use Rattle.commands.specs.Reader.{first_word, first_number, read_three, read_two, read_settle, read_command};
-ghost use Rattle.commands.specs.View.{read_as, command_of};
+ghost use Rattle.commands.specs.View.{read_as, command_of, WordsIn};
 ghost use Rattle.commands.specs.inner.Parts.{split_of, numbered_of, call_of_three};
 
 use crate::{Command, hexadecimal, numbers};
@@ -46,7 +46,8 @@ fn three_numbers(text: &[u8]) -> Option<(u32, u32, u32)>
 
 #[tactic(auto, unfolding(crate::specs::Reader::read_two))]
 fn query(text: &[u8]) -> Option<Command<'_>>
-    ensures { read_as command_of result ≡ read_two text.now }
+    ensures read { read_as command_of result ≡ read_two text.now }
+    ensures words { WordsIn text.now result }
 {
     let (card, after_card) = first_number(text)?;
     let kind = numbers::read(after_card)?;
@@ -55,7 +56,8 @@ fn query(text: &[u8]) -> Option<Command<'_>>
 
 #[tactic(auto, unfolding(crate::specs::Reader::read_settle))]
 fn settlement(text: &[u8]) -> Option<Command<'_>>
-    ensures { read_as command_of result ≡ read_settle text.now }
+    ensures read { read_as command_of result ≡ read_settle text.now }
+    ensures words { WordsIn text.now result }
 {
     let (exchange, proof) = first_word(text)?;
     let both = hexadecimal::is_hexadecimal(exchange) && hexadecimal::is_hexadecimal(proof);
@@ -65,7 +67,8 @@ fn settlement(text: &[u8]) -> Option<Command<'_>>
 // What a line commands, for any bytes: none is an ill-formed line.
 #[tactic(auto, unfolding(crate::specs::Reader::read_command, crate::specs::Reader::read_form))]
 pub fn read(line: &[u8]) -> Option<Command<'_>>
-    ensures { read_as command_of result ≡ read_command line.now }
+    ensures read { read_as command_of result ≡ read_command line.now }
+    ensures words { WordsIn line.now result }
 {
     let [letter, b' ', text @ ..] = line else {
         return None;
