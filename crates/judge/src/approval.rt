@@ -28,10 +28,11 @@ impl<'a> Approval<'a> {
     pub(crate) fn price(self, i: u8) -> Transfer
         ensures { transfer_of result ≡ price_asked self.entry.row.now self.entry.rec.bytes.now i }
     {
+        let price = layout::price_at(self.row, i);
         Transfer {
-            giver: self.rec.card(layout::price_giver(self.row, i)),
-            kind: layout::price_kind(self.row, i),
-            receiver: self.card(layout::price_receiver(self.row, i)),
+            giver: self.rec.card(price.giver),
+            kind: price.kind,
+            receiver: self.card(price.receiver),
         }
     }
 }

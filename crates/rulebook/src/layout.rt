@@ -9,7 +9,7 @@ ghost use Rattle.forms.specs.Numbers.{digits_in};
 ghost use Rattle.rulebook.specs.Layout.{card_byte, entry_size, row_at};
 ghost use Rattle.rulebook.specs.View.{card_count, card_length, digit_at, member_view, rule_count};
 ghost use Rattle.rulebook.specs.View.{row_owner, row_kind, row_head, row_price_count, row_condition_count};
-ghost use Rattle.rulebook.specs.View.{price_giver, price_kind, price_receiver, group_asked, first_name, second_name};
+ghost use Rattle.rulebook.specs.View.{price_at, condition_at};
 ghost use Rattle.rulebook.specs.inner.Writes.{CardAdded, MemberAdded, RuleAdded, with_head, with_price, with_condition};
 
 use forms::{CardNumber, Condition, Price, RuleForm};
@@ -162,42 +162,27 @@ fn entry_byte(row: &[u8], place: usize, i: u8) -> u8
     ascii::byte(row, place + usize::from(i) * ENTRY_SIZE)
 }
 
-// Price i, from 0: the giver's variable, the kind, the receiver's name.
-pub fn price_giver(row: &[u8], i: u8) -> u8
-    ensures { (result ≡ price_giver row.now i) × (result < 8) }
+// Price i, from 0.
+pub fn price_at(row: &[u8], i: u8) -> Price
+    ensures { (result ≡ price_at row.now i) × (result.giver < 8) }
 {
-    entry_byte(row, PRICE_GIVER, i) % limits::VARIABLE_COUNT
+    Price {
+        giver: entry_byte(row, PRICE_GIVER, i) % limits::VARIABLE_COUNT,
+        kind: entry_byte(row, PRICE_KIND, i),
+        receiver: entry_byte(row, PRICE_RECEIVER, i),
+    }
 }
 
-pub fn price_kind(row: &[u8], i: u8) -> u8
-    ensures { result ≡ price_kind row.now i }
+// Condition i, from 0: its first byte is its group, or 0 where it has none.
+pub fn condition_at(row: &[u8], i: u8) -> Condition
+    ensures { result ≡ condition_at row.now i }
 {
-    entry_byte(row, PRICE_KIND, i)
-}
-
-pub fn price_receiver(row: &[u8], i: u8) -> u8
-    ensures { result ≡ price_receiver row.now i }
-{
-    entry_byte(row, PRICE_RECEIVER, i)
-}
-
-// Condition i, from 0: the group, or 0 for two cards of one issuer, and two names.
-pub fn group_asked(row: &[u8], i: u8) -> u8
-    ensures { result ≡ group_asked row.now i }
-{
-    entry_byte(row, GROUP_ASKED, i)
-}
-
-pub fn first_name(row: &[u8], i: u8) -> u8
-    ensures { result ≡ first_name row.now i }
-{
-    entry_byte(row, FIRST_NAME, i)
-}
-
-pub fn second_name(row: &[u8], i: u8) -> u8
-    ensures { result ≡ second_name row.now i }
-{
-    entry_byte(row, SECOND_NAME, i)
+    let group = entry_byte(row, GROUP_ASKED, i);
+    let second = entry_byte(row, SECOND_NAME, i);
+    if group == 0 {
+        return Condition::SameIssuer(entry_byte(row, FIRST_NAME, i), second);
+    }
+    Condition::InGroup(group, second)
 }
 
 // ---- a rule's row written

@@ -6,8 +6,10 @@ use Rattle.model.specs.Lists.{within, every, any, up_to}
 use Rattle.model.specs.Transfers.{Transfer}
 use Rattle.model.specs.Fairness.{card_of, is_payable}
 use Rattle.model.specs.Proof.{cards}
+use Rattle.forms.specs.declared.rules.Condition.{Condition}
+use Rattle.forms.specs.declared.rules.Condition.TheVariants.{InGroup, SameIssuer}
 use Rattle.rulebook.specs.View.{card_count, digit_at, member_view, name_view, row_owner, row_head, row_price_count, row_condition_count}
-use Rattle.rulebook.specs.View.{price_giver, price_kind, price_receiver, group_asked, first_name, second_name}
+use Rattle.rulebook.specs.View.{price_at, condition_at}
 
 -- 0, 1, .., n - 1
 abbrev pub below : ℕ → List ℕ
@@ -21,10 +23,14 @@ card_named row r y = card_of (row_owner row) (cards r) (name_view y)
 
 -- variable v is in price i, in condition i, in the rule
 abbrev pub in_price : List ℕ → ℕ → ℕ → Bool
-in_price row v i = eqb v (price_giver row i) || eqb v (price_receiver row i)
+in_price row v i = let p = price_at row i in eqb v p.giver || eqb v p.receiver
+
+abbrev pub is_named : ℕ → Condition → Bool
+is_named v (InGroup g z) = eqb v z
+is_named v (SameIssuer y z) = eqb v y || eqb v z
 
 abbrev pub in_condition : List ℕ → ℕ → ℕ → Bool
-in_condition row v i = (eqb (group_asked row i) 0 && eqb v (first_name row i)) || eqb v (second_name row i)
+in_condition row v i = is_named v (condition_at row i)
 
 unfoldable pub in_rule : List ℕ → ℕ → Bool
 in_rule row v = eqb v (row_head row) || (any (in_price row v) (below (row_price_count row)) || any (in_condition row v) (below (row_condition_count row)))
@@ -55,8 +61,8 @@ cards_fit n row r receiver =
 -- ---- question 18
 
 -- the transfer that price i asks
-unfoldable pub price_asked : List ℕ → List ℕ → ℕ → Transfer
-price_asked row r i = record { giver = cards r (price_giver row i); kind = price_kind row i; receiver = card_named row r (price_receiver row i) }
+abbrev pub price_asked : List ℕ → List ℕ → ℕ → Transfer
+price_asked row r i = let p = price_at row i in record { giver = cards r p.giver; kind = p.kind; receiver = card_named row r p.receiver }
 
 abbrev pub prices_asked : List ℕ → List ℕ → List Transfer
 prices_asked row r = up_to (price_asked row r) (row_price_count row)
@@ -77,10 +83,9 @@ same_prefix_of table a b =
     let second = within b (card_count table) in
     cond (first && second) (every (same_digit table a b) (below prefix_length)) (not (first || second))
 
-unfoldable pub condition_holds : List ℕ → List ℕ → List ℕ → ℕ → Bool
-condition_holds table row r i =
-    let second = card_named row r (second_name row i) in
-    cond (eqb (group_asked row i) 0) (same_prefix_of table (card_named row r (first_name row i)) second) (member_view table (group_asked row i) second)
+abbrev pub condition_holds : List ℕ → List ℕ → List ℕ → Condition → Bool
+condition_holds table row r (InGroup g z) = member_view table g (card_named row r z)
+condition_holds table row r (SameIssuer y z) = same_prefix_of table (card_named row r y) (card_named row r z)
 
 abbrev pub all_hold : List ℕ → List ℕ → List ℕ → Bool
-all_hold table row r = every (condition_holds table row r) (below (row_condition_count row))
+all_hold table row r = every (λ i. condition_holds table row r (condition_at row i)) (below (row_condition_count row))
