@@ -34,6 +34,11 @@ number_of reason.NotCovered = 22
 number_of reason.HoldingExceeded = 23
 number_of reason.BadHoldings = 24
 
+-- the number of the question that a line or a record does not meet; 0 where it meets each
+abbrev pub unmet_of : Result (Unit {0}) Reason → ℕ
+unmet_of (Ok done) = 0
+unmet_of (Err why) = number_of why
+
 -- a line or a record refused for a reason, with its number as the place
 abbrev pub placed : ℕ → Result (Unit {0}) Reason → Result (Unit {0}) Refusal
 placed n (Ok done) = Ok done

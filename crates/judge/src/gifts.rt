@@ -21,6 +21,7 @@ fn first_gifts(exchange: Exchange) -> [u8; 256]
 {
     let n = exchange.len();
     let mut firsts = [n as u8; 256];
+    // By number: place i is read, and noted.
     for i in 0..n {
         let t = transfer_at(exchange.bytes, i);
         let giver = usize::from(t.giver);

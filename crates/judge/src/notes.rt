@@ -28,7 +28,7 @@ pub(crate) struct Notes<'a> {
     pub(crate) claimed: [bool; 32],
     // How often each transfer is asked, counted at the first of equal ones.
     asked: [u8; 32],
-    // Whether a price is asked that is no transfer.
+    // Whether a price is asked that is no transfer. A flag, since the counts in an Option would be tested and taken out at each price.
     missing: bool,
 }
 
@@ -71,9 +71,10 @@ impl<'a> Notes<'a> {
 
     fn ask_prices(&mut self, approval: Approval)
         requires { Room self.old.gifts.exchange.bytes.now 4 self.old.asked }
-        ensures { Asked (prices_asked approval.entry.row.now approval.entry.rec.bytes.now) self.old self.new × (self.new.claimed ≡ self.old.claimed) }
+        ensures { Asked (prices_asked approval.entry.row.bytes.now approval.entry.rec.bytes.now) self.old self.new × (self.new.claimed ≡ self.old.claimed) }
     {
-        let n = layout::price_count(approval.row);
+        let n = approval.row.price_count();
+        // By number: price i is the row's, which is no list of prices.
         for i in 0..n {
             self.ask(approval.price(i));
         }

@@ -16,7 +16,7 @@ const ZERO: usize = 3;
 
 const CARDS: usize = 4;
 
-// A record of a proof.
+// A record of a proof. Each byte has a method of its name, though they differ in a place alone: no other file knows one.
 #[derive(Clone, Copy)]
 pub(crate) struct Record<'a> {
     pub(crate) bytes: &'a [u8],

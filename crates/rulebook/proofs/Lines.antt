@@ -18,13 +18,13 @@ use Rattle.model.specs.Opening.{card_digits, is_card_number, line_questions, wit
 use Rattle.model.proofs.Tests.{both_true}
 use Rattle.model.proofs.Questions.{numbered, first_refuses}
 use Rattle.std.specs.Prelude.{Result, Ok, Err, OnOk}
-use Rattle.answers.specs.View.{answer_of, number_of, placed}
+use Rattle.answers.specs.View.{answer_of, number_of, unmet_of, placed}
 use Rattle.answers.specs.declared.Reason.{Reason}
 use Rattle.answers.specs.declared.Reason.TheVariants.{NoForm}
 use Rattle.answers.proofs.Numbers.{number_positive}
 use Rattle.rulebook.specs.declared.Tables.{Tables}
 use Rattle.rulebook.specs.View.{card_count, rule_count, cards_of, tables_book}
-use Rattle.rulebook.specs.inner.Lines.{card_questions, group_questions, rule_questions, number_in, AddedUnless, CardTaken, GroupTaken, RuleTaken, LineTaken}
+use Rattle.rulebook.specs.inner.Lines.{card_questions, group_questions, rule_questions, AddedUnless, CardTaken, GroupTaken, RuleTaken, LineTaken}
 use Rattle.rulebook.proofs.Books.{cards_are, card-count, rule-count, count_small}
 use Rattle.rulebook.proofs.Rows.{row-says, row-length}
 use Rattle.rulebook.proofs.Grown.{card_grown, member_grown, rule_grown}
@@ -47,14 +47,14 @@ module _ (w : List ℕ) (t t' : Tables) (l : Line) (x : Bool) (is : read_line w 
       go true = refl
       go false = refl
 
-  line-answer : (r : Result (Unit {0}) Reason) → number_in r ≡ first_unmet ((2 unless x) ∷ line_questions (tables_book t) l)
+  line-answer : (r : Result (Unit {0}) Reason) → unmet_of r ≡ first_unmet ((2 unless x) ∷ line_questions (tables_book t) l)
       → OnOk r (tables_book t' ≡ with_line (tables_book t) l) → LineTaken w t r t'
   line-answer r e h = record {
     answer = λ i.
         go i r _ _ e h ∙ sym (first_refuses ((2 unless x) ∷ line_questions (tables_book t) l) i (ok (with_line (tables_book t) l)) (asked (tables_book t) l)) ∙ sym (opened i);
   }
     where
-      go : (i : ℕ) (r : Result (Unit {0}) Reason) {n : ℕ} (b b' : Book) → number_in r ≡ n → OnOk r (b' ≡ b) → answer_of b' (placed i r) ≡ cond (eqb n 0) (ok b) (refused n i)
+      go : (i : ℕ) (r : Result (Unit {0}) Reason) {n : ℕ} (b b' : Book) → unmet_of r ≡ n → OnOk r (b' ≡ b) → answer_of b' (placed i r) ≡ cond (eqb n 0) (ok b) (refused n i)
       go i (Ok _) b b' e h = rw (sym e) (ap ok h)
       go i (Err reason) b b' e h = rw (sym e, ne_eqb (number_of reason) 0 (λ z. omega (arith, number_positive reason, z)))
 

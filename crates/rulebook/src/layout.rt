@@ -67,6 +67,7 @@ const SECOND_NAME: usize = 19;
 
 // ---- the card table read
 
+// A count for each table, though both are at one place: the tables are of two types, and each has its limit.
 #[tactic(auto, unfolding(crate::specs::View::card_count))]
 pub fn card_count(cards: &CardTable) -> u8
     ensures { result ≡ card_count cards.now }
@@ -115,74 +116,84 @@ pub fn rule_count(rules: &RuleTable) -> u8
     rules[COUNT].min(limits::RULE_LIMIT)
 }
 
+// A rule's row. Each entry has a method of its name, though some differ in a place alone: no other file knows one, or can ask for another.
+#[derive(Clone, Copy)]
+pub struct Row<'a> {
+    bytes: &'a [u8],
+}
+
 // The row of rule n; past the last, the last row.
 #[tactic(auto, using(crate::proofs::Parts::row_part))]
-pub fn row_at(rules: &RuleTable, n: u8) -> &[u8]
-    ensures { result.now ≡ row_at rules.now (min n rule_limit) }
+pub fn row_at(rules: &RuleTable, n: u8) -> Row<'_>
+    ensures { result.bytes.now ≡ row_at rules.now (min n rule_limit) }
 {
     let at = usize::from(n.min(limits::RULE_LIMIT)) * RULE_ROW;
-    &rules[at..at + RULE_ROW]
-}
-
-pub fn owner(row: &[u8]) -> u8
-    ensures { result ≡ row_owner row.now }
-{
-    ascii::byte(row, OWNER)
-}
-
-pub fn kind(row: &[u8]) -> u8
-    ensures { result ≡ row_kind row.now }
-{
-    ascii::byte(row, KIND)
-}
-
-pub fn head(row: &[u8]) -> u8
-    ensures { (result ≡ row_head row.now) × (result < 8) }
-{
-    ascii::byte(row, HEAD) % limits::VARIABLE_COUNT
-}
-
-pub fn price_count(row: &[u8]) -> u8
-    ensures { result ≡ row_price_count row.now }
-{
-    ascii::byte(row, PRICE_COUNT).min(limits::PRICE_LIMIT)
-}
-
-pub fn condition_count(row: &[u8]) -> u8
-    ensures { result ≡ row_condition_count row.now }
-{
-    ascii::byte(row, CONDITION_COUNT).min(limits::CONDITION_LIMIT)
-}
-
-// A byte of entry i, a price or a condition, from 0: entry 0's is at the place.
-fn entry_byte(row: &[u8], place: usize, i: u8) -> u8
-    requires { place < 2 ^ 16 }
-    ensures { result ≡ get_or row.now (place + i * entry_size) 0 }
-{
-    ascii::byte(row, place + usize::from(i) * ENTRY_SIZE)
-}
-
-// Price i, from 0.
-pub fn price_at(row: &[u8], i: u8) -> Price
-    ensures { (result ≡ price_at row.now i) × (result.giver < 8) }
-{
-    Price {
-        giver: entry_byte(row, PRICE_GIVER, i) % limits::VARIABLE_COUNT,
-        kind: entry_byte(row, PRICE_KIND, i),
-        receiver: entry_byte(row, PRICE_RECEIVER, i),
+    Row {
+        bytes: &rules[at..at + RULE_ROW],
     }
 }
 
-// Condition i, from 0: its first byte is its group, or 0 where it has none.
-pub fn condition_at(row: &[u8], i: u8) -> Condition
-    ensures { result ≡ condition_at row.now i }
-{
-    let group = entry_byte(row, GROUP_ASKED, i);
-    let second = entry_byte(row, SECOND_NAME, i);
-    if group == 0 {
-        return Condition::SameIssuer(entry_byte(row, FIRST_NAME, i), second);
+impl<'a> Row<'a> {
+    pub fn owner(self) -> u8
+        ensures { result ≡ row_owner self.entry.bytes.now }
+    {
+        ascii::byte(self.bytes, OWNER)
     }
-    Condition::InGroup(group, second)
+
+    pub fn kind(self) -> u8
+        ensures { result ≡ row_kind self.entry.bytes.now }
+    {
+        ascii::byte(self.bytes, KIND)
+    }
+
+    pub fn head(self) -> u8
+        ensures { (result ≡ row_head self.entry.bytes.now) × (result < 8) }
+    {
+        ascii::byte(self.bytes, HEAD) % limits::VARIABLE_COUNT
+    }
+
+    pub fn price_count(self) -> u8
+        ensures { result ≡ row_price_count self.entry.bytes.now }
+    {
+        ascii::byte(self.bytes, PRICE_COUNT).min(limits::PRICE_LIMIT)
+    }
+
+    pub fn condition_count(self) -> u8
+        ensures { result ≡ row_condition_count self.entry.bytes.now }
+    {
+        ascii::byte(self.bytes, CONDITION_COUNT).min(limits::CONDITION_LIMIT)
+    }
+
+    // A byte of entry i, a price or a condition, from 0: entry 0's is at the place.
+    fn entry(self, place: usize, i: u8) -> u8
+        requires { place < 2 ^ 16 }
+        ensures { result ≡ get_or self.entry.bytes.now (place + i * entry_size) 0 }
+    {
+        ascii::byte(self.bytes, place + usize::from(i) * ENTRY_SIZE)
+    }
+
+    // Price i, from 0.
+    pub fn price(self, i: u8) -> Price
+        ensures { (result ≡ price_at self.entry.bytes.now i) × (result.giver < 8) }
+    {
+        Price {
+            giver: self.entry(PRICE_GIVER, i) % limits::VARIABLE_COUNT,
+            kind: self.entry(PRICE_KIND, i),
+            receiver: self.entry(PRICE_RECEIVER, i),
+        }
+    }
+
+    // Condition i, from 0: its first byte is its group, or 0 where it has none.
+    pub fn condition(self, i: u8) -> Condition
+        ensures { result ≡ condition_at self.entry.bytes.now i }
+    {
+        let group = self.entry(GROUP_ASKED, i);
+        let second = self.entry(SECOND_NAME, i);
+        if group == 0 {
+            return Condition::SameIssuer(self.entry(FIRST_NAME, i), second);
+        }
+        Condition::InGroup(group, second)
+    }
 }
 
 // ---- a rule's row written

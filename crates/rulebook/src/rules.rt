@@ -23,7 +23,7 @@ fn put_prices(row: &mut RuleRow, line: &[u8], at: usize, n: usize)
     }
 }
 
-// The n conditions of a line from a place on.
+// The n conditions of a line from a place on. They share no more than the loop with prices: what is read and written is of another type.
 fn put_conditions(row: &mut RuleRow, line: &[u8], at: usize, n: usize)
     requires { (at + condition_limit * condition_width ≤ longest) × (n ≡ condition_count line.now at) }
     ensures { row.new ≡ condition_cells line.now at n row.old }

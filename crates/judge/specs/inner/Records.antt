@@ -1,21 +1,14 @@
 -- Questions 15 to 20 of a proof record over the bytes. They are put together as the code asks them; that the first unmet one is
 -- the model's is in proofs/Agreeing.antt.
-use Rattle.std.specs.Prelude.{Bool, false, not, ◌&&◌, cond, List, [], ◌∷◌, ◌++◌, ℕ, ◌-◌, Result, Ok, Err, eqb, get_or}
+use Rattle.std.specs.Prelude.{Bool, false, not, ◌&&◌, cond, List, [], ◌∷◌, ◌++◌, ℕ, ◌-◌, eqb, get_or}
 use Rattle.model.specs.Lists.{within}
 use Rattle.model.specs.Questions.{Question, ◌unless◌}
 use Rattle.model.specs.Transfers.{Transfer, transfer_at}
 use Rattle.model.specs.Proof.{next, claim, rule_number}
-use Rattle.answers.specs.declared.Reason.{Reason}
-use Rattle.answers.specs.View.{number_of}
 use Rattle.rulebook.specs.Layout.{row_at}
 use Rattle.rulebook.specs.View.{card_count, rule_count, row_owner, row_kind}
 use Rattle.transfers.specs.View.{transfer_count}
 use Rattle.judge.specs.inner.Rows.{cards_fit, all_payable, all_hold}
-
--- the number of the question that is not met; 0 where each is
-abbrev pub unmet_of : Result (Unit {0}) Reason → ℕ
-unmet_of (Ok _) = 0
-unmet_of (Err reason) = number_of reason
 
 -- question 15 of transfer number k among n
 abbrev pub is_claimable : List Bool → ℕ → ℕ → Bool

@@ -1,11 +1,11 @@
 -- What a line leaves in the tables that are lent to the functions that take it.
-use Rattle.std.specs.Prelude.{not, ◌≡◌, List, [], ◌∷◌, ℕ, ltb, length, get_or, Result, Ok, Err, OnOk, OnErr}
+use Rattle.std.specs.Prelude.{not, ◌≡◌, List, [], ◌∷◌, ℕ, ltb, length, get_or, Result, OnOk, OnErr}
 use Rattle.model.specs.Limits.{card_limit, rule_limit}
 use Rattle.model.specs.Lists.{within, any, eq_list}
 use Rattle.model.specs.Questions.{Question, ◌unless◌, first_unmet}
 use Rattle.model.specs.Reader.{group_of, number_at, is_card_line, card_read, is_group_line, is_rule_line}
 use Rattle.model.specs.Opening.{card_digits, is_card_number, open_line}
-use Rattle.answers.specs.View.{answer_of, number_of, placed}
+use Rattle.answers.specs.View.{answer_of, unmet_of, placed}
 use Rattle.answers.specs.declared.Reason.{Reason}
 use Rattle.rulebook.specs.declared.Tables.{Tables}
 use Rattle.rulebook.specs.View.{card_count, rule_count, cards_of, tables_book}
@@ -29,14 +29,9 @@ rule_questions cards rules w = (2 unless is_rule_line w) ∷ (6 unless within (n
 
 -- ---- what a line leaves in a table
 
--- a refused line's number; 0 of one that is taken
-abbrev pub number_in : Result (Unit {0}) Reason → ℕ
-number_in (Ok _) = 0
-number_in (Err reason) = number_of reason
-
 -- refused by the first question that is not met, and then the table is as it was; otherwise something is added
 pub record AddedUnless (questions : List Question) (Added : List ℕ → Type 0) (result : Result (Unit {0}) Reason) (table table' : List ℕ) : Type 0 where
-  pub first : number_in result ≡ first_unmet questions
+  pub first : unmet_of result ≡ first_unmet questions
   pub added : OnOk result (Added table')
   pub kept : OnErr result (table' ≡ table)
 

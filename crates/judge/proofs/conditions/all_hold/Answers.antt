@@ -11,4 +11,4 @@ pub returns : goal.returns
 returns c =
     let a = c.args.approval in
     rw (← c.condition_count-n.ensures)
-    (all_places (λ (i : ℕ). i) (λ i. condition_holds c.args.cards.now a.row.now a.rec.bytes.now (condition_at a.row.now i)) _ _ _ refl (λ x b q k. search rules) _ c.all.ensures.ran)
+    (all_places (λ (i : ℕ). i) (λ i. condition_holds c.args.cards.now a.row.bytes.now a.rec.bytes.now (condition_at a.row.bytes.now i)) _ _ _ refl (λ x b q k. search rules) _ c.all.ensures.ran)

@@ -10,4 +10,4 @@ pub returns : goal.returns
 returns c =
     let a = c.args.approval in
     rw (← c.price_count-n.ensures, ← c.owner-owner.ensures)
-    (all_places (price_asked a.row.now a.rec.bytes.now) (is_payable c.owner-owner.result) _ _ _ refl (λ x b q k. search rules) _ c.all.ensures.ran)
+    (all_places (price_asked a.row.bytes.now a.rec.bytes.now) (is_payable c.owner-owner.result) _ _ _ refl (λ x b q k. search rules) _ c.all.ensures.ran)

@@ -13,7 +13,8 @@ use Rattle.transfers.specs.View.{transfer_count}
 use Rattle.rulebook.specs.View.{rule_count}
 use Rattle.rulebook.proofs.Books.{rules_small}
 use Rattle.model.specs.Questions.{first_unmet}
-use Rattle.judge.specs.inner.Records.{unmet_of, is_claimable, is_linked, questions15to20}
+use Rattle.answers.specs.View.{unmet_of}
+use Rattle.judge.specs.inner.Records.{is_claimable, is_linked, questions15to20}
 use Rattle.transfers.proofs.Listing.{here}
 use Rattle.judge.proofs.Asking.{record_unmet}
 use Rattle.model.specs.Proof.{next, claim, rule_number}

@@ -10,7 +10,7 @@ use Rattle.judge.proofs.records.rule_question.Goals.{Else-not-all_payable, Else-
 
 -- question 16's test, as the program asks it
 abbrev right_rule : Start → Bool
-right_rule s = let a = s.args in eqb (row_owner a.approval.row.now) a.claimed.giver && eqb (row_kind a.approval.row.now) a.claimed.kind
+right_rule s = let a = s.args in eqb (row_owner a.approval.row.bytes.now) a.claimed.giver && eqb (row_kind a.approval.row.bytes.now) a.claimed.kind
 
 met16 : (c : Else-not-owner-claimed) → right_rule (goal.at.Else-not-owner-claimed c).Start ≡ true
 met16 c = rw (← c.owner.ensures, ← c.kind.ensures) (c.if-not-owner-claimed.false)
@@ -18,10 +18,10 @@ met16 c = rw (← c.owner.ensures, ← c.kind.ensures) (c.if-not-owner-claimed.f
 unmet16 : (c : Then-not-owner-claimed) → right_rule (goal.at.Then-not-owner-claimed c).Start ≡ false
 unmet16 c = rw (← c.owner.ensures, ← c.kind.ensures) (c.if-not-owner-claimed.true)
 
-met17 : (c : Else-not-cards_fit) → let a = c.args in cards_fit (card_count a.cards.now) a.approval.row.now a.approval.rec.bytes.now a.claimed.receiver ≡ true
+met17 : (c : Else-not-cards_fit) → let a = c.args in cards_fit (card_count a.cards.now) a.approval.row.bytes.now a.approval.rec.bytes.now a.claimed.receiver ≡ true
 met17 c = rw (← c.card_count.ensures) (sym c.cards_fit.ensures ∙ c.if-not-cards_fit.false)
 
-met18 : (c : Else-not-all_payable) → let a = c.args in all_payable a.approval.row.now a.approval.rec.bytes.now ≡ true
+met18 : (c : Else-not-all_payable) → let a = c.args in all_payable a.approval.row.bytes.now a.approval.rec.bytes.now ≡ true
 met18 c = sym c.all_payable.ensures ∙ c.if-not-all_payable.false
 
 pub returns-then-not-owner-claimed : goal.returns-then-not-owner-claimed

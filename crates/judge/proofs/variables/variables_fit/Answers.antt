@@ -19,4 +19,4 @@ returns c =
     let r = a.approval.rec.bytes.now in
     let fits = λ (v : ℕ). cond (get_or c.mark_used.new.marks v false) (within (cards r v) a.declared) (eqb (cards r v) 0) in
     all_places (λ (i : ℕ). i) fits 8 _ _ refl (λ x b q k. search rules) _ c.all.ensures.ran
-    ∙ every_cong fits (variable_fits a.declared a.approval.row.now r) 8 (λ v l. rw (c.mark_used.ensures.each v l))
+    ∙ every_cong fits (variable_fits a.declared a.approval.row.bytes.now r) 8 (λ v l. rw (c.mark_used.ensures.each v l))

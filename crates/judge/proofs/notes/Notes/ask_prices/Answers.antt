@@ -21,5 +21,5 @@ loop-i-preserved c =
 pub returns : goal.returns
 returns c =
     let o = c.loop-i in
-    let e : o.i ≡ row_price_count c.args.approval.row.now = omega arith in
+    let e : o.i ≡ row_price_count c.args.approval.row.bytes.now = omega arith in
     (rw e at o.invariant.2, o.invariant.3)

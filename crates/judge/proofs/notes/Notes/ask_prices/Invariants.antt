@@ -9,8 +9,8 @@ use Rattle.judge.proofs.notes.Notes.ask_prices.Given as goal
 
 abbrev pub invariant-loop-i : goal.invariant-loop-i
 invariant-loop-i l =
-    (l.i ≤ l.n) × (l.n ≡ row_price_count l.approval.row.now)
-    × Asked (up_to (price_asked l.approval.row.now l.approval.rec.bytes.now) l.i) l.initial.self l.self
+    (l.i ≤ l.n) × (l.n ≡ row_price_count l.approval.row.bytes.now)
+    × Asked (up_to (price_asked l.approval.row.bytes.now l.approval.rec.bytes.now) l.i) l.initial.self l.self
     × (l.self.claimed ≡ l.initial.self.claimed)
 
 abbrev pub decreases-loop-i : goal.decreases-loop-i
