@@ -1,2 +1,3 @@
+pub mod Chunks
 pub mod Improper
 pub mod Listing

@@ -5,6 +5,7 @@
 ghost use Rattle.std.specs.Prelude.{◌≡◌, take, get_or};
 ghost use Rattle.model.specs.Lists.{first_failing};
 ghost use Rattle.model.specs.Transfers.{count, exchange_of, no_transfer};
+ghost use Rattle.model.specs.Transfers as model;
 ghost use Rattle.transfers.specs.View.{transfer_of, transfers_of, told, Listed};
 ghost use Rattle.model.specs.Fairness.{is_proper_of};
 
@@ -21,6 +22,20 @@ pub struct Transfer {
     pub receiver: u8,
 }
 
+impl Transfer {
+    // Giver, kind and receiver, as they stand in an exchange.
+    fn of(triple: &[u8; TRANSFER_SIZE]) -> Transfer
+        ensures { transfer_of result ≡ model.transfer_at triple.now 0 }
+    {
+        let [giver, kind, receiver] = *triple;
+        Transfer {
+            giver,
+            kind,
+            receiver,
+        }
+    }
+}
+
 const NO_TRANSFER: Transfer = Transfer {
     giver: 0,
     kind: 0,
@@ -31,14 +46,10 @@ const NO_TRANSFER: Transfer = Transfer {
 pub fn transfer_at(exchange: &[u8], i: usize) -> Transfer
     ensures { transfer_of result ≡ get_or (exchange_of exchange.now) i no_transfer }
 {
-    if exchange.len() / TRANSFER_SIZE <= i {
-        return NO_TRANSFER;
-    }
-    let at = i * TRANSFER_SIZE;
-    Transfer {
-        giver: exchange[at],
-        kind: exchange[at + 1],
-        receiver: exchange[at + 2],
+    let (triples, _) = exchange.as_chunks::<TRANSFER_SIZE>();
+    match triples.get(i) {
+        Some(triple) => Transfer::of(triple),
+        None => NO_TRANSFER,
     }
 }
 
@@ -54,9 +65,10 @@ fn is_proper(declared: u8, t: Transfer) -> bool
 pub fn first_improper(declared: u8, exchange: &[u8]) -> Option<usize>
     ensures { result ≡ told (first_failing (is_proper_of declared) 1 (exchange_of exchange.now)) }
 {
-    let n = exchange.len() / TRANSFER_SIZE;
-    (0..n)
-        .position(|i| !is_proper(declared, transfer_at(exchange, i)))
+    let (triples, _) = exchange.as_chunks::<TRANSFER_SIZE>();
+    triples
+        .iter()
+        .position(|triple| !is_proper(declared, Transfer::of(triple)))
         .map(|i| i + 1)
 }
 
