@@ -1,10 +1,11 @@
 -- A word that ends at the first space; words that lie in a line.
-use Rattle.std.proofs.Common.{◌≡◌, sym, ℕ, ◌+◌, List, [], ◌++◌, length, take, drop, Option, Some, None, position, ◌==◌, Bool, true, false, cond, subst, Bor}
+use Rattle.std.proofs.Common.{◌≡◌, sym, ℕ, ◌+◌, ◌-◌, List, [], ◌++◌, length, take, drop, Option, Some, None, position, ◌==◌, Bool, true, false, cond, subst, Bor}
 use Rattle.std.specs.Bool.{then_some}
 use Rattle.std.proofs.lemmas.List.{take-append-drop}
 use mathlib.Core.List.{append_assoc, append-nil}
 use lib.Dec.{ltb}
 use Rattle.model.specs.Lists.{until}
+use Rattle.model.proofs.Places.{to_end}
 use Rattle.model.proofs.Facts.{never}
 use Prim.Native.Char.{code}
 use mathlib.Core.Option.{some, none}
@@ -28,21 +29,19 @@ word_lies n s = ([], drop n s, sym (take-append-drop n s))
 rest_lies : (n : ℕ) (s : List ℕ) → LiesIn (drop n s) s
 rest_lies n s = (take n s, [], rw (append-nil (drop n s)) (sym (take-append-drop n s)))
 
-lies_after : (k n : ℕ) (line s : List ℕ) → LiesIn s (take k (drop n line)) → LiesIn s line
-lies_after k n line s (before, after, e) =
-    let text = drop n line in
-    let d = drop k text in
-    let joined : before ++ (s ++ (after ++ d)) ≡ text =
-    rw (← append_assoc s after d, ← append_assoc before (s ++ after) d, ← e) (take-append-drop k text) in
-    (take n line ++ before, after ++ d, rw (append_assoc (take n line) before (s ++ (after ++ d)), joined) (sym (take-append-drop n line)))
+lies_after : (n : ℕ) (line s : List ℕ) → LiesIn s (drop n line) → LiesIn s line
+lies_after n line s (before, after, e) =
+    (take n line ++ before, after, rw (append_assoc (take n line) before (s ++ after), ← e) (sym (take-append-drop n line)))
 
--- what is read of a part of a line
-pub words_after : (k n : ℕ) (line : List ℕ) (r : Option Command) → WordsIn (take k (drop n line)) r → WordsIn line r
-words_after k n line (Some (Issue m i c)) w = tt
-words_after k n line (Some (Redeem m i c)) w = tt
-words_after k n line (Some (Query m i)) w = tt
-words_after k n line (Some (Settle e p)) w = (lies_after k n line e.now w.0, lies_after k n line p.now w.1)
-words_after k n line None w = tt
+-- what is read of what follows a line's letter and its space
+pub words_of_text : (line : List ℕ) (r : Option Command) → WordsIn (take (length line - 2) (drop 2 line)) r → WordsIn line r
+words_of_text line (Some (Issue m i c)) w = tt
+words_of_text line (Some (Redeem m i c)) w = tt
+words_of_text line (Some (Query m i)) w = tt
+words_of_text line (Some (Settle e p)) w =
+    let v = rw (to_end line 2) at w in
+    (lies_after 2 line e.now v.0, lies_after 2 line p.now v.1)
+words_of_text line None w = tt
 
 split_lies : (s : List ℕ) (c : Split) → first_word s ≡ some c → LiesIn c.word s × LiesIn c.rest s
 unfolding first_word

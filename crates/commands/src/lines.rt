@@ -54,7 +54,7 @@ fn query(text: &[u8]) -> Option<Command<'_>>
     Some(Command::Query { card, kind })
 }
 
-#[tactic(auto, unfolding(crate::specs::Reader::read_settle))]
+#[tactic(auto, using(crate::proofs::Words::settled_in), unfolding(crate::specs::Reader::read_settle))]
 fn settlement(text: &[u8]) -> Option<Command<'_>>
     ensures read { read_as command_of result ≡ read_settle text.now }
     ensures words { WordsIn text.now result }
@@ -65,7 +65,7 @@ fn settlement(text: &[u8]) -> Option<Command<'_>>
 }
 
 // What a line commands, for any bytes: none is an ill-formed line.
-#[tactic(auto, unfolding(crate::specs::Reader::read_command, crate::specs::Reader::read_form))]
+#[tactic(auto, using(crate::proofs::Words::words_of_text), unfolding(crate::specs::Reader::read_command, crate::specs::Reader::read_form))]
 pub fn read(line: &[u8]) -> Option<Command<'_>>
     ensures read { read_as command_of result ≡ read_command line.now }
     ensures words { WordsIn line.now result }
