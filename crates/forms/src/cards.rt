@@ -14,7 +14,7 @@ pub struct CardNumber {
     pub digits: [u8; 19],
 }
 
-// Puts a digit at a place, if the row has that place.
+// Puts a digit at a place, if the row has that place: by index, since what std promises of `get_mut` leaves open what the row holds after a write.
 fn put_digit(digits: &mut [u8; 19], at: usize, d: u8)
     ensures { digits.new ≡ set digits.old at d }
 {
@@ -88,11 +88,5 @@ fn checks(number: CardNumber) -> bool
 pub fn is_card_number(number: CardNumber) -> bool
     ensures { result ≡ is_number_in number }
 {
-    if MOST_DIGITS < number.count {
-        return false;
-    }
-    if number.count < LEAST_DIGITS {
-        return false;
-    }
-    checks(number)
+    (LEAST_DIGITS..=MOST_DIGITS).contains(&number.count) && checks(number)
 }
