@@ -77,7 +77,7 @@ impl From<Reason> for Refusal {
     }
 }
 
-// What a call tells that is not refused: no more than that, or a holding.
+// What a call tells that is not refused: no more than that, or a holding. No Option: to be done is an answer, not the lack of a holding.
 #[derive(Clone, Copy, Debug, PartialEq, Eq, Hash)]
 pub enum Told {
     Done,
