@@ -77,6 +77,7 @@ pub fn first_improper(declared: u8, exchange: &[u8]) -> Option<usize>
 pub fn read_list(exchange: &[u8]) -> [Transfer; LIST_SIZE]
     ensures { Listed exchange.now result }
 {
+    // By places: what std promises of `list.iter_mut().zip(..)` leaves open what the list holds after the loop.
     let n = (exchange.len() / TRANSFER_SIZE).min(LIST_SIZE);
     let mut list = [NO_TRANSFER; LIST_SIZE];
     for i in 0..n {
