@@ -165,7 +165,7 @@ impl<'a> Row<'a> {
     }
 
     // A byte of entry i, a price or a condition, from 0: entry 0's is at the place.
-    fn entry(self, place: usize, i: u8) -> u8
+    fn entry_byte(self, place: usize, i: u8) -> u8
         requires { place < 2 ^ 16 }
         ensures { result ≡ get_or self.entry.bytes.now (place + i * entry_size) 0 }
     {
@@ -177,9 +177,9 @@ impl<'a> Row<'a> {
         ensures { (result ≡ price_at self.entry.bytes.now i) × (result.giver < 8) }
     {
         Price {
-            giver: self.entry(PRICE_GIVER, i) % limits::VARIABLE_COUNT,
-            kind: self.entry(PRICE_KIND, i),
-            receiver: self.entry(PRICE_RECEIVER, i),
+            giver: self.entry_byte(PRICE_GIVER, i) % limits::VARIABLE_COUNT,
+            kind: self.entry_byte(PRICE_KIND, i),
+            receiver: self.entry_byte(PRICE_RECEIVER, i),
         }
     }
 
@@ -187,10 +187,10 @@ impl<'a> Row<'a> {
     pub fn condition(self, i: u8) -> Condition
         ensures { result ≡ condition_at self.entry.bytes.now i }
     {
-        let group = self.entry(GROUP_ASKED, i);
-        let second = self.entry(SECOND_NAME, i);
+        let group = self.entry_byte(GROUP_ASKED, i);
+        let second = self.entry_byte(SECOND_NAME, i);
         if group == 0 {
-            return Condition::SameIssuer(self.entry(FIRST_NAME, i), second);
+            return Condition::SameIssuer(self.entry_byte(FIRST_NAME, i), second);
         }
         Condition::InGroup(group, second)
     }
