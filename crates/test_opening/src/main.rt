@@ -152,7 +152,7 @@ fn cards(rt: &impl Print) -> io::Result<()> {
 }
 
 // Cards as they are printed.
-fn hyphens(rt: &impl Print) -> io::Result<()> {
+fn printed_groups(rt: &impl Print) -> io::Result<()> {
     show_all(
         rt,
         &[
@@ -179,6 +179,14 @@ fn hyphens(rt: &impl Print) -> io::Result<()> {
             ),
             ("two digits, one hyphen", b"C 1-2\n"),
             ("wrong check digit in printed groups", b"C 7000-1200-0018\n"),
+        ],
+    )
+}
+
+fn printed_twice(rt: &impl Print) -> io::Result<()> {
+    show_all(
+        rt,
+        &[
             (
                 "in printed groups after without",
                 b"C 700012000019\nC 7000-1200-0019\n",
@@ -199,6 +207,15 @@ fn hyphens(rt: &impl Print) -> io::Result<()> {
                 "wrong check digit before a hyphen alone",
                 b"C 7000-1200-0018\nC -\n",
             ),
+        ],
+    )
+}
+
+// Hyphens, and what stands in their place, where the form has none.
+fn misplaced_hyphens(rt: &impl Print) -> io::Result<()> {
+    show_all(
+        rt,
+        &[
             ("leading hyphen", b"C -7000-1200-0019\n"),
             ("trailing hyphen", b"C 7000-1200-0019-\n"),
             ("doubled hyphen", b"C 7000--1200-0019\n"),
@@ -302,7 +319,9 @@ fn main(rt: HostRuntime) -> io::Result<()> {
     rules(&rt)?;
     bytes(&rt)?;
     cards(&rt)?;
-    hyphens(&rt)?;
+    printed_groups(&rt)?;
+    printed_twice(&rt)?;
+    misplaced_hyphens(&rt)?;
     long_lines(&rt)?;
     limits(&rt)
 }
