@@ -3,12 +3,12 @@ use mathlib.Core.Path.{◌≡◌, refl, ap₂, ◌∙◌, sym}
 use mathlib.Core.Bool.{Bool, true, false, true≢false, ◌&&◌, cond}
 use mathlib.Core.List.{List}
 use mathlib.Core.Logic.{◌⊎◌, inl, inr}
-use Prim.Native.Nat.{ℕ, ◌<◌}
+use Prim.Native.Nat.{ℕ, ◌≤◌, ◌<◌}
 use native.Mathlib.Omega.{arith}
 use lib.Dec.{T, eqb, eqb→eq}
 use lib.ListN.{length, get_or, set}
 use lib.Seq.{get_or-set_same, get_or-set_other}
-use Rattle.model.specs.Limits.{card_limit, kind_count}
+use Rattle.model.specs.Limits.{card_limit, kind_count, number_most}
 use Rattle.model.specs.Lists.{within, one_if}
 use Rattle.model.proofs.Tests.{T-eq, eq-T, both, eqb_ne, within→, →within}
 use Rattle.accounts.specs.View.{place_of, state_from}
@@ -21,6 +21,18 @@ in_range c k r = rw (T-eq (within c card_limit) (→within c card_limit r.c_low 
 pub held_at : (h : List ℕ) (c k : ℕ) → Ranged c k → (state_from h).held c k ≡ get_or h (place_of c k) 0
 unfolding state_from
 held_at h c k r = rw (in_range c k r)
+
+-- numbers of 32 bits
+abbrev pub Fitting : List ℕ → Type 0
+Fitting h = (i : ℕ) → get_or h i 0 < 4294967296
+
+pub held_fits : (h : List ℕ) → Fitting h → (c k : ℕ) → (state_from h).held c k ≤ number_most
+unfolding state_from
+held_fits h f c k = go (within c card_limit && within k kind_count)
+  where
+    go : (x : Bool) → cond x (get_or h (place_of c k) 0) 0 ≤ number_most
+    go true = omega (arith, f (place_of c k))
+    go false = omega arith
 
 spot_apart : (c k d j : ℕ) → Ranged c k → Ranged d j → place_of c k ≡ place_of d j → (c ≡ d) × (k ≡ j)
 spot_apart c k d j r q e = (omega arith, omega arith)
@@ -57,10 +69,10 @@ held-set h c k v l r d j = go (within d card_limit && within j kind_count) refl 
     go false e false f y g = refl
 
 -- a store at card c and kind k is met there and nowhere else
-pub store_cases : (h : List ℕ) (c k v : ℕ) → length h ≡ 512 → Ranged c k → (d j : ℕ)
-    → ((one_if (eqb c d && eqb k j) ≡ 1) × ((state_from (set h (place_of c k) v)).held d j ≡ v) × ((state_from h).held d j ≡ get_or h (place_of c k) 0))
-    ⊎ ((one_if (eqb c d && eqb k j) ≡ 0) × ((state_from (set h (place_of c k) v)).held d j ≡ (state_from h).held d j))
-store_cases h c k v l r d j = go (eqb c d) (eqb k j) refl refl (held-set h c k v l r d j)
+pub store_cases : (h : List ℕ) (c k at v : ℕ) → at ≡ place_of c k → length h ≡ 512 → Ranged c k → (d j : ℕ)
+    → ((one_if (eqb c d && eqb k j) ≡ 1) × ((state_from (set h at v)).held d j ≡ v) × ((state_from h).held d j ≡ get_or h at 0))
+    ⊎ ((one_if (eqb c d && eqb k j) ≡ 0) × ((state_from (set h at v)).held d j ≡ (state_from h).held d j))
+store_cases h c k at v there l r d j = rw there (go (eqb c d) (eqb k j) refl refl (held-set h c k v l r d j))
   where
     go : (x y : Bool) → eqb c d ≡ x → eqb k j ≡ y → (state_from (set h (place_of c k) v)).held d j ≡ cond (x && y) v ((state_from h).held d j)
         → ((one_if (x && y) ≡ 1) × ((state_from (set h (place_of c k) v)).held d j ≡ v) × ((state_from h).held d j ≡ get_or h (place_of c k) 0))

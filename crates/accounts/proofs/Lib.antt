@@ -1,4 +1,4 @@
 pub mod HoldingPlaces
 pub mod HoldingNumbers
-pub mod Chunks
 pub mod AccountLaws
+pub mod Asked

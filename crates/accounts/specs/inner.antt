@@ -1,3 +1,3 @@
 -- Private contracts: nothing below has to be believed, since no contract of an exported function names it.
 pub mod Ranged
-pub mod Refusal
+pub mod Found

@@ -1,26 +1,30 @@
 // Issuing, redeeming and the holding query over the 512 holdings: questions 8 to 11.
 //
-// The holdings are lent and changed in place, so that a call copies none; a refused call changes none. They are an array, since the engine
-// has no heap, and the number of declared cards comes beside them: it is the tables', and the holdings are the engine's or the host's.
+// The holdings are lent and changed in place, so that a call copies none; a refused call changes none. The number of declared cards comes
+// before them: the tables have it, an engine or a host the holdings, and a struct of both would copy or borrow them for each call.
 
 #![tactic(auto)]
 
-ghost use Rattle.std.specs.Prelude.{◌≡◌, ◌*◌, ◌<◌, min};
-ghost use Rattle.model.specs.Limits.{card_limit, kind_count};
+ghost use Rattle.std.specs.Prelude.{◌≡◌, ◌*◌, ◌<◌, min, leb, IfOk};
+ghost use Rattle.model.specs.Lists.{every};
+ghost use Rattle.model.specs.Limits.{card_limit, kind_count, holding_count};
+ghost use Rattle.model.specs.Grammar.{is_kind};
 ghost use Rattle.model.specs.Holdings.{total};
 ghost use Rattle.model.specs.Calls.{issue, redeem, query};
 ghost use Rattle.accounts.specs.View.{place_of, state_from};
 ghost use Rattle.accounts.specs.Answered.{AnsweredFor};
-ghost use Rattle.accounts.specs.inner.Refusal.{account_answer};
+ghost use Rattle.accounts.specs.inner.Found.{found};
 
-use answers::{Reason, Refusal, Reply, Told};
+use answers::{Reason, Reply, Told};
 
-// Widened by `as`, since a constant cannot call `From`.
-const KIND_COUNT: u32 = limits::KIND_COUNT as u32;
-
+// Constants are widened by `as`: they cannot call `From`.
 const KINDS: usize = limits::KIND_COUNT as usize;
 
-const SUM_LIMIT: u64 = limits::SUM_LIMIT as u64;
+// One holding for each of the cards and each of the kinds that there are.
+pub const HOLDING_COUNT: usize = limits::CARD_LIMIT as usize * KINDS;
+
+// An array, since the engine has no heap.
+pub type Holdings = [u32; HOLDING_COUNT];
 
 // A card and a kind, of any numbers: whose tokens, and of which kind.
 #[derive(Clone, Copy, Debug, PartialEq, Eq, Hash)]
@@ -29,26 +33,47 @@ pub struct Account {
     pub kind: u32,
 }
 
+// Of bytes, as a transfer has them.
+impl From<(u8, u8)> for Account {
+    ghost from_gives = { λ pair account. account ≡ record { card = pair.0; kind = pair.1 } };
+
+    fn from((card, kind): (u8, u8)) -> Account {
+        Account {
+            card: u32::from(card),
+            kind: u32::from(kind),
+        }
+    }
+}
+
 impl Account {
-    // Where the card's holding of the kind is; 0 is taken for 1.
+    // Where the card's holding of the kind is. It cannot fail, as settling asks it of what has been judged: 0 is taken for 1. By `as`, here and
+    // in `kind_sum`: 32 bits have no `From` to a size.
     pub fn place(self) -> usize
         ensures { result ≡ place_of self.card self.kind }
     {
         (self.card as usize).saturating_sub(1) * KINDS + (self.kind as usize).saturating_sub(1)
     }
 
-    // Questions 8 and 9.
-    fn known(self, declared: u8) -> Result<(), Reason>
-        ensures { result ≡ account_answer declared self.card self.kind }
+    // Its place, where questions 8 and 9 are met.
+    #[tactic(auto, unfolding(crate::specs::inner::Found::found))]
+    fn found(self, declared: u8) -> Result<usize, Reason>
+        ensures place { result ≡ found declared self.card self.kind }
+        ensures within { IfOk result (λ at. at < holding_count) }
     {
-        if self.card < 1 || u32::from(declared.min(limits::CARD_LIMIT)) < self.card {
+        if !(1..=u32::from(declared.min(limits::CARD_LIMIT))).contains(&self.card) {
             return Err(Reason::CardUndeclared);
         }
-        if self.kind < 1 || KIND_COUNT < self.kind {
+        if !is_kind(self.kind) {
             return Err(Reason::KindUnknown);
         }
-        Ok(())
+        Ok(self.place())
     }
+}
+
+fn is_kind(number: u32) -> bool
+    ensures { result ≡ is_kind number }
+{
+    (1..=u32::from(limits::KIND_COUNT)).contains(&number)
 }
 
 // Where the holdings of the undeclared cards begin, of any number of declared ones.
@@ -58,49 +83,57 @@ pub fn declared_end(declared: u8) -> usize
     usize::from(declared.min(limits::CARD_LIMIT)) * KINDS
 }
 
-// The kind's sum over all cards; a number that is no kind has none.
-pub fn kind_sum(holdings: &[u32; 512], kind: u32) -> u64
+// Whether each of the holdings is at most so much. All are asked, so that the compiler asks several at once: `all`, which stops, takes 1,540
+// instructions for 778, of 512 holdings.
+pub fn at_most(holdings: &[u32], most: u32) -> bool
+    ensures { result ≡ every (λ held. leb held most) holdings.now }
+{
+    holdings
+        .iter()
+        .fold(true, |all, held| all & (*held <= most))
+}
+
+// The kind's sum over all cards; of a number that is no kind it is 0, since no card holds any.
+pub fn kind_sum(holdings: &Holdings, kind: u32) -> u64
     ensures { (result ≡ total (state_from holdings.now) kind) × (result < 1099511627776) }
 {
-    if kind < 1 || KIND_COUNT < kind {
+    if !is_kind(kind) {
         return 0;
     }
     let column = kind as usize - 1;
-    let mut sum: u64 = 0;
-    for row in holdings.as_chunks::<KINDS>().0 {
-        sum += u64::from(row[column]);
-    }
-    sum
+    holdings
+        .as_chunks::<KINDS>()
+        .0
+        .iter()
+        .map(|row| u64::from(row[column]))
+        .sum()
 }
 
-pub fn issue(declared: u8, holdings: &mut [u32; 512], account: Account, count: u32) -> Reply
+pub fn issue(declared: u8, holdings: &mut Holdings, account: Account, count: u32) -> Reply
     ensures { AnsweredFor declared holdings.old (issue account.card account.kind count) result holdings.new }
 {
-    account.known(declared)?;
+    let place = account.found(declared)?;
     let sum = kind_sum(holdings, account.kind) + u64::from(count);
-    if SUM_LIMIT < sum {
-        return Err(Refusal::from(Reason::SumExceeded));
+    if u64::from(limits::SUM_LIMIT) < sum {
+        return Err(Reason::SumExceeded.into());
     }
-    let held = &mut holdings[account.place()];
-    *held += count;
+    holdings[place] += count;
     Ok(Told::Done)
 }
 
-pub fn redeem(declared: u8, holdings: &mut [u32; 512], account: Account, count: u32) -> Reply
+pub fn redeem(declared: u8, holdings: &mut Holdings, account: Account, count: u32) -> Reply
     ensures { AnsweredFor declared holdings.old (redeem account.card account.kind count) result holdings.new }
 {
-    account.known(declared)?;
-    let held = &mut holdings[account.place()];
-    if *held < count {
-        return Err(Refusal::from(Reason::HoldingShort));
-    }
-    *held -= count;
+    let place = account.found(declared)?;
+    holdings[place] = holdings[place]
+        .checked_sub(count)
+        .ok_or(Reason::HoldingShort)?;
     Ok(Told::Done)
 }
 
-pub fn holding(declared: u8, holdings: &[u32; 512], account: Account) -> Reply
+pub fn holding(declared: u8, holdings: &Holdings, account: Account) -> Reply
     ensures { AnsweredFor declared holdings.now (query account.card account.kind) result holdings.now }
 {
-    account.known(declared)?;
-    Ok(Told::Holding(holdings[account.place()]))
+    let place = account.found(declared)?;
+    Ok(Told::Holding(holdings[place]))
 }

@@ -49,7 +49,7 @@ impl From<Reason> for u8 {
     }
 }
 
-// A refusal: its reason, and a place: a line, a transfer or a record, from 1, or 0.
+// A refusal: its reason, and a place: a line, a transfer or a record, from 1; 0, as document 01 prints it, where there is none.
 #[derive(Clone, Copy, Debug, PartialEq, Eq, Hash)]
 pub struct Refusal {
     pub reason: Reason,
@@ -73,7 +73,7 @@ impl From<Reason> for Refusal {
     ghost from_gives = { λ why refusal. refusal ≡ record { reason = why; place = 0 } };
 
     fn from(reason: Reason) -> Refusal {
-        Refusal { reason, place: 0 }
+        reason.at(0)
     }
 }
 
@@ -87,13 +87,13 @@ pub enum Told {
 // What a call answers.
 pub type Reply = Result<Told, Refusal>;
 
-// A refusal's number; 0 of a call that is not refused.
+// A refusal's number; 0 of a call that is not refused, as the C interface has it.
 pub fn refusal_number(reply: Reply) -> u8
     ensures { result ≡ refusal_number (reply_of reply) }
 {
     match reply {
-        Ok(told) => 0,
-        Err(refusal) => u8::from(refusal.reason),
+        Ok(_) => 0,
+        Err(refusal) => refusal.reason.into(),
     }
 }
 

@@ -1,19 +1,23 @@
 -- The first place of a byte, as a search over a slice tells it, and as the definitions do; and a slice that is searched by eights.
-use mathlib.Core.Path.{◌≡◌, refl, ◌∙◌}
+use mathlib.Core.Path.{◌≡◌, refl, sym, ◌∙◌, ap}
 use mathlib.Core.Bool.{Bool, true, false, cond, not}
-use mathlib.Core.List.{List, [], ◌∷◌}
+use mathlib.Core.List.{List, [], ◌∷◌, ◌++◌}
 use Prim.Native.Nat.{ℕ, zero, suc, ◌+◌, ◌*◌, ◌/◌, ◌<◌, ◌≤◌, min}
 use native.Mathlib.Omega.{arith}
-use lib.Dec.{eqb, ltb}
-use lib.ListN.{length, get_or, take, drop, length-drop}
-use lib.Seq.{drop-drop, length-take-le}
+use lib.Dec.{T, eqb}
+use lib.ListN.{length, get_or, take, drop, length-drop, take-append-drop}
+use lib.Seq.{drop-drop, length-take-le, take-suc, take_all}
+use Rattle.std.proofs.lemmas.Bool.{le-ltb, lt-ltb}
 use borrow.Author.Tests.{ltb-true, ltb-false}
-use Rattle.std.specs.Prelude.{Some, None, unwrap_or, position, ◌==◌}
+use Rattle.std.specs.Prelude.{Some, None, position, ◌==◌}
 use Rattle.std.specs.List.{position_or_len}
 use Rattle.std.specs.Simd.{first_chunks}
 use Rattle.std.proofs.lemmas.Option.{cond_some}
-use Rattle.model.specs.Lists.{until}
-use Rattle.model.proofs.Places.{until_bound, until_past}
+use native.Mathlib.Numerals.{add-one}
+use Rattle.model.specs.Lists.{until, lacks}
+use Rattle.model.proofs.Chunks.{chunk_at}
+use Rattle.model.proofs.Places.{until_bound, until_past, until-there}
+use Rattle.ascii.specs.Cut.{CutAt}
 use Rattle.ascii.proofs.Options.{cond_none}
 
 until_first : (x : ℕ) (s : List ℕ) → position_or_len (λ y. y == x) s ≡ until x s
@@ -35,12 +39,32 @@ module _ (x : ℕ) (s : List ℕ) where
   pub missed : position (λ y. y == x) s ≡ None → until x s ≡ length s
   missed e = let l = ltb-false _ _ (cond_none _ _ (rw (until_first x s) at e)) in omega (arith, until_bound x s)
 
-  pub found_or_end : unwrap_or (position (λ y. y == x) s) (length s) ≡ until x s
-  found_or_end = rw (until_first x s) (go (ltb (until x s) (length s)) refl)
-    where
-      go : (t : Bool) → ltb (until x s) (length s) ≡ t → unwrap_or (cond t (Some (until x s)) None) (length s) ≡ until x s
-      go true e = refl
-      go false e = let l = ltb-false (until x s) (length s) e in omega (arith, until_bound x s)
+  pub position_here : (n : ℕ) → until x s ≡ n → n < length s → position (λ y. y == x) s ≡ Some n
+  position_here n e l = let k : until x s < length s = omega arith in rw (until_first x s, lt-ltb (until x s) (length s) k, e)
+
+  pub position_nowhere : until x s ≡ length s → position (λ y. y == x) s ≡ None
+  position_nowhere e = let k : length s ≤ until x s = omega arith in rw (until_first x s, le-ltb (until x s) (length s) k)
+
+-- ---- a text cut at the first
+
+lacks-before : (x : ℕ) (s : List ℕ) → T (lacks x (take (until x s) s))
+unfolding until
+lacks-before x [] = tt
+lacks-before x (y ∷ s) = go (eqb y x) refl (lacks-before x s)
+  where
+    go : (t : Bool) → eqb y x ≡ t → T (lacks x (take (until x s) s)) → T (lacks x (take (cond t 0 (suc (until x s))) (y ∷ s)))
+    go true e h = tt
+    go false e h = rw e h
+
+module _ (x : ℕ) (s : List ℕ) where
+  pub cut_there : (n : ℕ) → until x s ≡ n → n < length s → CutAt x s (take n s) (drop (n + 1) s)
+  cut_there n e l =
+      let there : until x s < length s = omega arith in
+      let up_to_it : take (suc n) s ≡ take n s ++ (x ∷ []) = take-suc s n 0 l ∙ rw (← e) (ap (λ (y : ℕ). take (until x s) s ++ (y ∷ [])) (until-there x s there)) in
+      record { whole = sym (take-append-drop (n + 1) s) ∙ ap (λ (w : List ℕ). w ++ drop (n + 1) s) (rw (add-one n) up_to_it); first = rw (← e) (lacks-before x s) }
+
+  pub lacks-all : until x s ≡ length s → T (lacks x s)
+  lacks-all e = rw (e, take_all (length s) s (omega arith)) at (lacks-before x s)
 
 until_take : (x n : ℕ) (s : List ℕ) → n ≤ length s → until x (take n s) ≡ min n (until x s)
 unfolding until
@@ -51,13 +75,6 @@ until_take x (suc n) (y ∷ s) l = rw (until_take x n s (omega arith)) (go (eqb 
     go : (t : Bool) → cond t 0 (suc (min n (until x s))) ≡ min (suc n) (cond t 0 (suc (until x s)))
     go true = omega arith
     go false = omega arith
-
-chunk_at : (n k i : ℕ) (s : List ℕ) → i < k → get_or (first_chunks n k s) i [] ≡ take n (drop (i * n) s)
-chunk_at n zero i s l = absurd (omega arith)
-chunk_at n (suc k) zero s l = let e : 0 * n ≡ 0 = omega arith in rw e
-chunk_at n (suc k) (suc i) s l =
-    let e : n + i * n ≡ suc i * n = omega arith in
-    chunk_at n k i (drop n s) (omega arith) ∙ (rw (drop-drop (i * n) n s, e))
 
 -- the eight at place i of r's, in which the place of x is asked
 module _ (x : ℕ) (r : List ℕ) (i : ℕ) (l : i < length r / 8) where
@@ -73,11 +90,11 @@ module _ (x : ℕ) (r : List ℕ) (i : ℕ) (l : i < length r / 8) where
 
   size : length eight ≡ 8
   unfolding eight from
-  size = rw (chunk_at 8 (length r / 8) i r l) (length-take-le 8 _ room)
+  size = rw (chunk_at 8 (length r / 8) i r [] l) (length-take-le 8 _ room)
 
   until-eight : until x eight ≡ min 8 (until x from)
   unfolding eight from
-  until-eight = rw (chunk_at 8 (length r / 8) i r l) (until_take x 8 _ room)
+  until-eight = rw (chunk_at 8 (length r / 8) i r [] l) (until_take x 8 _ room)
 
   pub found_in : (n : ℕ) → position (λ y. y == x) (get_or (first_chunks 8 (length r / 8) r) i []) ≡ Some n → (until x (drop (i * 8) r) ≡ n) × (n < 8)
   unfolding eight from

@@ -13,6 +13,7 @@ pub(crate) fn repeat<F: FnMut(Engine) -> Called>(
 {
     let mut next = *engine;
     let mut count = 0;
+    // Counted, not indexed; a `fold` would hand on engine and count as a pair, and put them apart at its end.
     for made in 0..times {
         let called = call(next);
         count += u32::from(called.reply.is_ok());

@@ -16,15 +16,18 @@ use std::io;
 
 const REPEATS: u32 = 100_000;
 
+// More bytes than an exchange or a proof may have. Arrays, since `unhex` fills what it is lent: a Vec would be filled with zeros first.
+const WORD_ROOM: usize = 4096;
+
 fn perform(engine: &mut Engine, line: &[u8], times: u32) -> u32 {
     match commands::read(line) {
-        Some(Command::Issue { card, kind, count }) => repeat(engine, times, |next| {
-            engine::issue(next, Account { card, kind }, count)
-        }),
-        Some(Command::Redeem { card, kind, count }) => repeat(engine, times, |next| {
-            engine::redeem(next, Account { card, kind }, count)
-        }),
-        Some(Command::Query { card, kind }) => ask(engine, Account { card, kind }, times),
+        Some(Command::Issue { account, count }) => {
+            repeat(engine, times, |next| engine::issue(next, account, count))
+        }
+        Some(Command::Redeem { account, count }) => {
+            repeat(engine, times, |next| engine::redeem(next, account, count))
+        }
+        Some(Command::Query { account }) => ask(engine, account, times),
         Some(Command::Settle { exchange, proof }) => settle(engine, exchange, proof, times),
         None => 0,
     }
@@ -45,9 +48,9 @@ fn ask(engine: &mut Engine, first: Account, times: u32) -> u32 {
 
 // A settlement of two words of hexadecimal, each as far as there is room for its bytes.
 fn settle(engine: &mut Engine, exchange: &[u8], proof: &[u8], times: u32) -> u32 {
-    let mut exchange_bytes = [0; 4096];
+    let mut exchange_bytes = [0; WORD_ROOM];
     let n = commands::unhex(exchange, &mut exchange_bytes);
-    let mut proof_bytes = [0; 4096];
+    let mut proof_bytes = [0; WORD_ROOM];
     let m = commands::unhex(proof, &mut proof_bytes);
     let exchange = &exchange_bytes[..n];
     let proof = &proof_bytes[..m];

@@ -13,14 +13,14 @@ use lib.Seq.{take-append_seam, drop-append-add, split_at}
 use borrow.Author.Tests.{eqb-true, ne_eqb, lt-ltb, ltb-true}
 use Rattle.model.specs.Lists.{every, until, each, is_byte}
 use Rattle.model.proofs.Places.{until-there}
-use Rattle.model.specs.Reader.{digit_of}
+use Rattle.model.specs.Reader.{digit_of, is_digit}
 use Rattle.model.specs.Calls.{Call, issue, redeem, query, settle}
 use Rattle.model.proofs.Tests.{T-eq, eq-T, and, both, every_map}
 use Rattle.model.proofs.Facts.{facts, never}
 use Rattle.model.specs.Grammar.{decimal}
 use Rattle.model.specs.Limits.{number_most}
 use Rattle.commands.specs.Grammar.{hex_digit, hex_byte, hexadecimal, print_command, well_formed_call}
-use Rattle.commands.specs.Reader.{then_read, is_digit, read_number, is_hexadecimal, pair_bytes, Split, first_word, Numbered, first_number}
+use Rattle.commands.specs.Reader.{then_read, read_number, is_hexadecimal, pair_bytes, Split, first_word, Numbered, first_number}
 use Rattle.commands.specs.Reader.{read_two, read_three, read_settle, read_form, read_command}
 use Rattle.commands.proofs.Decimals.{decimal-digits, number-printed, number-taken}
 use Rattle.commands.proofs.Pairs.{word-printed, word-taken}

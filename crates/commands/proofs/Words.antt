@@ -1,5 +1,5 @@
 -- A word that ends at the first space; words that lie in a line.
-use Rattle.std.proofs.Common.{◌≡◌, sym, ℕ, ◌+◌, ◌-◌, List, [], ◌++◌, length, take, drop, Option, Some, None, position, ◌==◌, Bool, true, false, cond, subst, Bor}
+use Rattle.std.proofs.Common.{◌≡◌, ◌∙◌, sym, ℕ, ◌+◌, ◌-◌, List, [], ◌++◌, length, take, drop, Option, Some, None, position, ◌==◌, Bool, true, false, cond, subst, Bor}
 use Rattle.std.specs.Bool.{then_some}
 use Rattle.std.proofs.lemmas.List.{take-append-drop}
 use mathlib.Core.List.{append_assoc, append-nil}
@@ -17,9 +17,10 @@ use Rattle.commands.specs.View.{LiesIn, WordsIn}
 use Rattle.commands.specs.declared.Command.{Command}
 use Rattle.commands.specs.declared.Command.TheVariants.{Issue, Redeem, Query, Settle}
 
-pub word_found : (s : List ℕ) (n : ℕ) → position (λ x. x == 32) s ≡ Some n → first_word s ≡ some (record { word = take n s; rest = drop (n + 1) s })
+pub word_found : (s : List ℕ) (r : Option ℕ) (n : ℕ) → r ≡ position (λ x. x == 32) s → r ≡ Some n
+    → some (record { word = take n s; rest = take (length s - (n + 1)) (drop (n + 1) s) }) ≡ first_word s
 unfolding first_word
-word_found s n e = let (is, l) = found 32 s n e in rw (is, lt-ltb n (length s) l)
+word_found s r n p e = let (is, l) = found 32 s n (sym p ∙ e) in rw (to_end s (n + 1), is, lt-ltb n (length s) l)
 
 -- ---- where words lie
 
@@ -35,9 +36,9 @@ lies_after n line s (before, after, e) =
 
 -- what is read of what follows a line's letter and its space
 pub words_of_text : (line : List ℕ) (r : Option Command) → WordsIn (take (length line - 2) (drop 2 line)) r → WordsIn line r
-words_of_text line (Some (Issue m i c)) w = tt
-words_of_text line (Some (Redeem m i c)) w = tt
-words_of_text line (Some (Query m i)) w = tt
+words_of_text line (Some (Issue a n)) w = tt
+words_of_text line (Some (Redeem a n)) w = tt
+words_of_text line (Some (Query a)) w = tt
 words_of_text line (Some (Settle e p)) w =
     let v = rw (to_end line 2) at w in
     (lies_after 2 line e.now v.0, lies_after 2 line p.now v.1)

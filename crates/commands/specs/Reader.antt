@@ -7,7 +7,7 @@ use Rattle.std.specs.Prelude.{Bool, true, false, not, ◌&&◌, ◌||◌, cond, 
 use Rattle.std.proofs.Math.Option.{Option, none, some}
 use Prim.Native.Char.{code}
 use Rattle.model.specs.Lists.{every, eq_list, until, ascii}
-use Rattle.model.specs.Reader.{between, digit_of}
+use Rattle.model.specs.Reader.{between, digit_of, is_digit}
 use Rattle.model.specs.Calls.{Call, issue, redeem, query, settle}
 use Rattle.model.specs.Limits.{number_most}
 
@@ -17,9 +17,6 @@ then_read none f = none
 then_read (some a) f = f a
 
 -- ---- numbers
-
-abbrev pub is_digit : ℕ → Bool
-is_digit x = leb (digit_of x) 9
 
 -- the value of digits after the value v
 unfoldable pub value_from : ℕ → List ℕ → ℕ

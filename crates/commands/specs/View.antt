@@ -8,9 +8,9 @@ use Rattle.commands.specs.declared.Command.TheVariants.{Issue, Redeem, Query, Se
 
 -- the call that a command is
 abbrev pub command_of : Command → Call
-command_of (Issue m k n) = issue m k n
-command_of (Redeem m k n) = redeem m k n
-command_of (Query m k) = query m k
+command_of (Issue a n) = issue a.card a.kind n
+command_of (Redeem a n) = redeem a.card a.kind n
+command_of (Query a) = query a.card a.kind
 command_of (Settle exchange proof) = settle (pair_bytes exchange.now) (pair_bytes proof.now)
 
 -- what is read, where the program's option has what is read as B
@@ -24,9 +24,9 @@ LiesIn s line = (before : List ℕ) × (after : List ℕ) × (line ≡ before ++
 
 -- the words of hexadecimal of what is read lie in the line
 abbrev pub WordsIn : List ℕ → Option Command → Type 0
-WordsIn line (Some (Issue m k n)) = ⊤
-WordsIn line (Some (Redeem m k n)) = ⊤
-WordsIn line (Some (Query m k)) = ⊤
+WordsIn line (Some (Issue a n)) = ⊤
+WordsIn line (Some (Redeem a n)) = ⊤
+WordsIn line (Some (Query a)) = ⊤
 WordsIn line (Some (Settle exchange proof)) = LiesIn exchange.now line × LiesIn proof.now line
 WordsIn line None = ⊤
 

@@ -40,6 +40,7 @@ fn is_scope_letter(letter: u8) -> bool
 fn admits(dialect: Dialect, line: &[u8]) -> bool
     ensures { result ≡ admits dialect line.now }
 {
+    // `as`: the library has no From of 32 bits for a size.
     line.len() <= dialect.longest as usize
         && (dialect.full || is_scope_letter(ascii::byte(line, 0)))
 }

@@ -1,25 +1,19 @@
 // A command line by its first letter; its words are one space apart.
-ghost use Rattle.std.specs.Prelude.{◌≡◌, ◌==◌, ℕ, position};
+ghost use Rattle.std.specs.Prelude.{◌≡◌, ℕ};
 ghost use Rattle.model.specs.Calls.{Call};
 ghost use Rattle.commands.specs.Reader.{first_word, first_number, read_three, read_two, read_settle, read_command};
 ghost use Rattle.commands.specs.View.{read_as, command_of, WordsIn};
-ghost use Rattle.commands.specs.inner.Parts.{split_of, numbered_of, call_of_three};
+ghost use Rattle.commands.specs.inner.Parts.{split_of, numbered_of, call_on};
 
 use crate::{Command, hexadecimal, numbers};
+use accounts::Account;
 
-// Most words are a few bytes: by `ascii::find`, which passes eight a turn, reading takes 3 % more instructions.
-fn first_space(text: &[u8]) -> Option<usize>
-    ensures { result ≡ position (λ x. x == 32) text.now }
-{
-    text.iter().position(|x| *x == b' ')
-}
-
-// What comes before the first space, and after it.
+// What comes before the first space, and after it; by `ascii::cut`, which passes eight bytes a turn, an issue line takes 10 % more instructions.
 #[tactic(auto, using(crate::proofs::Words::word_found, ascii::proofs::Places::missed), unfolding(crate::specs::Reader::first_word))]
 fn first_word(text: &[u8]) -> Option<(&[u8], &[u8])>
     ensures { read_as split_of result ≡ first_word text.now }
 {
-    let end = first_space(text)?;
+    let end = ascii::first(text, b' ')?;
     Some((&text[..end], &text[end + 1..]))
 }
 
@@ -35,13 +29,13 @@ fn first_number(text: &[u8]) -> Option<(u32, &[u8])>
 
 // The last number is all that is left of the line, so a space in it makes it none.
 #[tactic(auto, unfolding(crate::specs::Reader::read_three))]
-fn three_numbers(text: &[u8]) -> Option<(u32, u32, u32)>
-    ensures { (f : ℕ → ℕ → ℕ → Call) → read_as (call_of_three f) result ≡ read_three f text.now }
+fn account_and_count(text: &[u8]) -> Option<(Account, u32)>
+    ensures { (f : ℕ → ℕ → ℕ → Call) → read_as (call_on f) result ≡ read_three f text.now }
 {
     let (card, after_card) = first_number(text)?;
     let (kind, after_kind) = first_number(after_card)?;
     let count = numbers::read(after_kind)?;
-    Some((card, kind, count))
+    Some((Account { card, kind }, count))
 }
 
 #[tactic(auto, unfolding(crate::specs::Reader::read_two))]
@@ -51,7 +45,8 @@ fn query(text: &[u8]) -> Option<Command<'_>>
 {
     let (card, after_card) = first_number(text)?;
     let kind = numbers::read(after_card)?;
-    Some(Command::Query { card, kind })
+    let account = Account { card, kind };
+    Some(Command::Query { account })
 }
 
 #[tactic(auto, using(crate::proofs::Words::settled_in), unfolding(crate::specs::Reader::read_settle))]
@@ -73,15 +68,15 @@ pub fn read(line: &[u8]) -> Option<Command<'_>>
     let [letter, b' ', text @ ..] = line else {
         return None;
     };
-    // `I` and `D` by `?`: where `map` makes the command of the three numbers, reading such a line takes 5 % more instructions.
+    // `I` and `D` by `?`: where `map` makes the command of an account and a count, such a line takes 5 % more instructions.
     match letter {
         b'I' => {
-            let (card, kind, count) = three_numbers(text)?;
-            Some(Command::Issue { card, kind, count })
+            let (account, count) = account_and_count(text)?;
+            Some(Command::Issue { account, count })
         }
         b'D' => {
-            let (card, kind, count) = three_numbers(text)?;
-            Some(Command::Redeem { card, kind, count })
+            let (account, count) = account_and_count(text)?;
+            Some(Command::Redeem { account, count })
         }
         b'H' => query(text),
         b'S' => settlement(text),

@@ -6,17 +6,17 @@
 
 #![tactic(auto)]
 
-ghost use Rattle.std.specs.Prelude.{◌≤◌, length, IfOk, IfSome};
+ghost use Rattle.std.specs.Prelude.{◌≤◌, length, IfOk};
 
 use commands::{ANSWER_SIZE, Dialect};
 use session::Session;
 use std::fs::File;
 use std::io;
-use std::io::Read;
+use std::io::{ErrorKind, Read};
 use std::rt::Files;
 
 // One byte more than a rule text may have is enough to refuse it.
-const TEXT_ROOM: usize = limits::TEXT_LIMIT as usize + 1;
+const TEXT_ROOM: usize = limits::TEXT_LIMIT + 1;
 
 // A large read, and all answers to it.
 const BLOCK_SIZE: usize = 16384;
@@ -30,6 +30,7 @@ fn read_text(file: &mut impl Read, text: &mut [u8]) -> io::Result<usize>
     let mut size = 0;
     while size < text.len() {
         let count = file.read(&mut text[size..])?;
+        // So the library says that the file is at its end.
         if count == 0 {
             break;
         }
@@ -39,12 +40,12 @@ fn read_text(file: &mut impl Read, text: &mut [u8]) -> io::Result<usize>
 }
 
 // A name that is not UTF-8 names no file: a path is text.
-fn read_book(rt: &impl Files, name: &[u8], text: &mut [u8]) -> Option<usize>
-    ensures { IfSome result (λ size. size ≤ length text.new) }
+fn read_book(rt: &impl Files, name: &[u8], text: &mut [u8]) -> io::Result<usize>
+    ensures { IfOk result (λ size. size ≤ length text.new) }
 {
-    let path = str::from_utf8(name).ok()?;
-    let mut file = File::open(rt, path).ok()?;
-    read_text(&mut file, text).ok()
+    let path = str::from_utf8(name).map_err(|_| ErrorKind::InvalidFilename)?;
+    let mut file = File::open(rt, path)?;
+    read_text(&mut file, text)
 }
 
 // For a book that cannot be read, and for more arguments than one.
@@ -54,50 +55,35 @@ pub fn say_bad(rt: &impl Print) {
     let _ = rt.write_all(&out[..count]);
 }
 
-// A block that was read, answered and written: the session afterwards, or none where the conversation ends.
-fn answer(
-    rt: &impl Print,
-    mut session: Session,
-    buffer: &mut [u8],
-    block: &[u8],
-    out: &mut [u8],
-) -> Option<Session> {
-    let mut rest = block;
-    while !rest.is_empty() {
-        let fed = session::feed(session, buffer, rest, out);
-        rt.write_all(&out[..fed.count]).ok()?;
-        // The buffer lacks its room: no call would take more.
-        if fed.taken == 0 {
-            return None;
-        }
-        session = fed.session;
-        rest = &rest[fed.taken..];
-    }
-    Some(session)
-}
-
-// The input to its end, then a last line that lacks its LF; none where it ends before. The count of reads is what shows that this ends.
-fn converse(rt: &(impl Input + Print), mut session: Session, buffer: &mut [u8]) -> Option<()> {
+// The input to its end, then a last line that lacks its LF. The count of reads is what shows that this ends: no measure of what is left to
+// read is known.
+fn converse(rt: &(impl Input + Print), mut session: Session, buffer: &mut [u8]) -> io::Result<()> {
     let mut block = [0; BLOCK_SIZE];
     let mut out = [0; ANSWERS_SIZE];
     let mut input = rt.reader();
     for _ in 0..u64::MAX {
-        // Not the input's end: what was read of a line is not the line.
-        let count = input.read(&mut block).ok()?;
+        // A read that fails is not the input's end: what was read of a line is not the line.
+        let count = input.read(&mut block)?;
         if count == 0 {
             break;
         }
-        session = answer(rt, session, buffer, &block[..count], &mut out)?;
+        let fed = session::feed(session, buffer, &block[..count], &mut out);
+        rt.write_all(&out[..fed.count])?;
+        // The buffer lacks its room: no call would take more.
+        if fed.taken < count {
+            return Err(ErrorKind::InvalidInput.into());
+        }
+        session = fed.session;
     }
     let mut last = [0; ANSWER_SIZE];
     let count = session::finish(session, buffer, &mut last);
-    rt.write_all(&last[..count]).ok()
+    rt.write_all(&last[..count])
 }
 
 // The file of this name opened, then the input answered. In a buffer that is no longer than the dialect's longest line, no line is answered.
 pub fn run(rt: &(impl Files + Input + Print), dialect: Dialect, name: &[u8], buffer: &mut [u8]) {
     let mut text = [0; TEXT_ROOM];
-    let Some(size) = read_book(rt, name, &mut text) else {
+    let Ok(size) = read_book(rt, name, &mut text) else {
         say_bad(rt);
         return;
     };

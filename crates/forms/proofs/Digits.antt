@@ -1,29 +1,28 @@
--- Loops over the bytes of a card number: whether they are in printed groups, and the digits among them, in a row; and over the row.
+-- Loops over the bytes of a card number: whether they are in printed groups, and the digits among them, in a row.
 use mathlib.Core.Path.{◌≡◌, refl, sym, ◌∙◌, ap}
 use mathlib.Core.Bool.{Bool, true, false, not, ◌&&◌, ◌||◌}
 use mathlib.Core.List.{List, [], ◌∷◌, ◌++◌, append-nil}
 use mathlib.Core.Logic.{⊎_elim}
-use Prim.Native.Nat.{ℕ, suc, ◌+◌, ◌-◌, ◌≤◌, ◌<◌}
+use Prim.Native.Nat.{ℕ, ◌+◌, ◌≤◌, ◌<◌}
 use native.Mathlib.Omega.{arith}
 use native.Mathlib.Numerals.{add-one}
 use native.Mathlib.Nat.{eq-or-lt_of_le}
 use lib.Dec.{leb}
-use lib.ListN.{length, get_or, set, take, drop, replicate, length-append, length-drop, length-set, drop_of_length-le, get_or-append, get_or-eq_default}
+use lib.ListN.{length, get_or, set, take, drop, replicate, length-append, length-set, get_or-append, get_or-eq_default}
 use lib.Seq.{drop-cons, drop-length, take-suc, take-length, get_or-take, get_or-append_seam, get_or-set_same, get_or-set_other, length-take-le, ext_get_or}
 use borrow.Author.Tests.{leb-true}
 use Rattle.model.specs.Limits.{least_digits, most_digits}
 use Rattle.model.specs.Lists.{each}
-use Rattle.model.specs.CardNumbers.{weighed, luhn_sum}
-use Rattle.model.specs.Reader.{digit_of, is_digit, is_hyphen, in_printed_groups, space_at, is_card_line, card_read}
+use Rattle.model.specs.Reader.{digit_of, is_digit, is_hyphen, in_printed_groups}
 use Rattle.model.specs.Opening.{is_card_number}
 use Rattle.model.proofs.Tests.{and-false_right, lt_or_ge}
 use Rattle.model.proofs.Places.{up_to_length, up_to_at}
 use Rattle.model.proofs.Words.{each_append}
 use Rattle.model.proofs.PrintedGroups.{digits_at, digits_among}
 use Rattle.std.specs.Prelude.{Some, None, if◌then◌else◌}
-use Rattle.forms.specs.Numbers.{in_row, card_number_in, digits_in, is_number_in}
-use Rattle.forms.specs.inner.Words.{word_number_in}
-use Rattle.forms.specs.declared.cards.CardNumber.{CardNumber}
+use Rattle.forms.specs.Numbers.{in_row, is_number_in}
+use Rattle.forms.specs.inner.Words.{word_in}
+use Rattle.forms.specs.declared.cards.CardLine.{CardLine}
 
 -- ---- whether bytes are in printed groups: those before i are, and `after` tells whether the last of them is a digit
 
@@ -55,20 +54,6 @@ module _ (s : List ℕ) (i : ℕ) (after : Bool) (h : in_printed_groups after (d
   pub all_placed : i ≡ length s → after ≡ in_printed_groups false s
   unfolding in_printed_groups
   all_placed e = rw (e, drop-length s) at h
-
--- ---- the check sum of the digits ds, of which those before i are summed up
-
-module _ (ds : List ℕ) (i sum : ℕ) (h : sum + luhn_sum (drop i ds) ≡ luhn_sum ds) where
-  pub sum_more : i < length ds → (sum + weighed (length ds - (i + 1)) (get_or ds i 0)) + luhn_sum (drop (i + 1) ds) ≡ luhn_sum ds
-  unfolding luhn_sum
-  sum_more l =
-      let e : luhn_sum (drop i ds) ≡ weighed (length ds - (i + 1)) (get_or ds i 0) + luhn_sum (drop (i + 1) ds)
-      = rw (add-one i, drop-cons ds i 0 l, length-drop (suc i) ds) in
-      omega (arith, h, e)
-
-  pub luhn-is : i ≡ length ds → sum ≡ luhn_sum ds
-  unfolding luhn_sum
-  luhn-is e = omega (arith, rw (e, drop-length ds) at h)
 
 -- ---- the row of the digits ds
 
@@ -112,9 +97,6 @@ pub taken_none : (s : List ℕ) → Taken s 0 0 (replicate most_digits 0)
 taken_none s = record { counted = refl; placed_in = refl; few = omega arith }
 
 module _ {s : List ℕ} {i count : ℕ} {row : List ℕ} (t : Taken s i count row) where
-  pub taken-size : length row ≡ most_digits
-  taken-size = ap length t.placed_in ∙ up_to_length (λ d. get_or (each digits_at (take i s)) d 0) most_digits
-
   module _ (l : i < length s) where
     one_byte : each digits_at (take (i + 1) s) ≡ each digits_at (take i s) ++ (digits_at (get_or s i 0) ++ [])
     one_byte = rw (add-one i, take-suc s i 0 l) (each_append digits_at (take i s) (get_or s i 0 ∷ []))
@@ -136,42 +118,27 @@ module _ {s : List ℕ} {i count : ℕ} {row : List ℕ} (t : Taken s i count ro
         record { counted = rw same t.counted; placed_in = rw same t.placed_in; few = omega (arith, t.few) }
 
   pub taken_all : i ≡ length s → {after : Bool} → after ≡ in_printed_groups false s
-      → (if after then Some (record { count = count; digits = row }) else None) ≡ word_number_in s
+      → (if after then Some (record { count = count; digits = row }) else None) ≡ word_in s
   taken_all e f =
       let all : each digits_at (take i s) ≡ each digits_at s = rw (e, take-length s) in
-      let n : ◌≡◌ {A = CardNumber} (record { count = count; digits = row }) (in_row (each digits_at s)) =
+      let n : ◌≡◌ {A = CardLine} (record { count = count; digits = row }) (in_row (each digits_at s)) =
       λ j. record { count = (t.counted ∙ ap length all) j; digits = (t.placed_in ∙ ap (λ (ds : List ℕ). (in_row ds).digits) all) j } in
       rw (f, n, digits_among s)
-
--- ---- a line's number: by its space, and what follows it
-
-module _ (w : List ℕ) where
-  pub none-short : length w < 2 → card_number_in w ≡ None
-  unfolding is_card_line in_printed_groups
-  none-short l = rw (drop_of_length-le w {i = 2} (omega arith), and-false_right (space_at w 1))
-
-  pub none_unspaced : space_at w 1 ≡ false → card_number_in w ≡ None
-  unfolding is_card_line
-  none_unspaced e = rw e
-
-  pub number-after : space_at w 1 ≡ true → word_number_in (drop 2 w) ≡ card_number_in w
-  unfolding is_card_line card_read
-  number-after e = rw e
 
 -- ---- the digits of a row
 
 module _ (ds : List ℕ) where
-  pub in_row_lem : length ds ≤ most_digits → digits_in (in_row ds) ≡ ds
+  pub in_row_lem : length ds ≤ most_digits → take (in_row ds).count (in_row ds).digits ≡ ds
   in_row_lem l =
       let n = up_to_length (λ d. get_or ds d 0) most_digits in
       let m = length-take-le (length ds) (in_row ds).digits (omega arith) in
-      ext_get_or 0 (digits_in (in_row ds)) ds m
+      ext_get_or 0 (take (length ds) (in_row ds).digits) ds m
       (λ k b. get_or-take (length ds) (in_row ds).digits k 0 (omega arith) ∙ up_to_at (λ d. get_or ds d 0) most_digits k 0 (omega arith))
 
   pub number_is : is_number_in (in_row ds) ≡ is_card_number ds
   unfolding is_number_in
   number_is = go (leb (length ds) most_digits) refl
     where
-      go : (x : Bool) → leb (length ds) most_digits ≡ x → (x && is_card_number (digits_in (in_row ds))) ≡ is_card_number ds
+      go : (x : Bool) → leb (length ds) most_digits ≡ x → (x && is_card_number (take (in_row ds).count (in_row ds).digits)) ≡ is_card_number ds
       go true e = ap is_card_number (in_row_lem (leb-true (length ds) most_digits e))
       go false e = rw (e, and-false_right (leb least_digits (length ds)))

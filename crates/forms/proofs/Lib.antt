@@ -1,4 +1,5 @@
 pub mod Digits
 pub mod Parts
-mod Counts
-mod Short
+mod Leading
+mod RuleForms
+mod Checks

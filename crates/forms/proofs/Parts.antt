@@ -1,233 +1,264 @@
--- The parts of a line, read step by step: what is missing, or what is there.
-use mathlib.Core.Path.{◌≡◌, refl, sym, ap, subst}
-use mathlib.Core.Bool.{Bool, true, false, not, ◌&&◌, ◌||◌, cond}
+-- The parts of a line: what is told of one that is there. Where a fact of these is missing, there is none.
+use mathlib.Core.Path.{◌≡◌, refl, sym, ◌∙◌, ap}
+use mathlib.Core.Bool.{Bool, true, false, not}
 use mathlib.Core.List.{List}
+use mathlib.Core.Logic.{◌≢◌, ◌⊎◌, inl, inr, ⊎_elim}
 use Prim.Native.Char.{code}
-use Prim.Native.Nat.{ℕ, ◌+◌, ◌*◌, ◌≤◌}
+use Prim.Native.Nat.{ℕ, ◌+◌, ◌-◌, ◌≤◌, ◌<◌}
 use native.Mathlib.Omega.{arith}
 use lib.Dec.{eqb, leb}
-use lib.ListN.{length, get_or, drop}
-use lib.Seq.{get_or-drop}
-use borrow.Author.Tests.{eq-eqb, ne_eqb, eqb-true}
-use Rattle.std.proofs.Common.{zero-add, add-zero}
-use Rattle.forms.proofs.Short.{price_short, condition_short}
-use mathlib.Core.Logic.{◌≢◌}
-use Prim.Native.Nat.{◌<◌}
-use Rattle.std.specs.Prelude.{Some, None, if◌then◌else◌}
+use lib.ListN.{length, get_or, take, drop, length-drop, get_or-eq_default}
+use lib.Seq.{get_or-drop, drop-drop}
+use Rattle.std.proofs.Common.{add-zero}
+use Rattle.model.proofs.Letters.{variable_letter_lem}
+use Rattle.model.proofs.Places.{to_end}
+use Rattle.std.specs.Prelude.{Some, None, MatchOption, if◌then◌else◌}
 use Rattle.std.specs.Bool.{then_some}
-use Rattle.std.specs.Option.{is_some}
-use Rattle.model.specs.Grammar.{is_variable}
-use Rattle.model.specs.Reader.{kind_of, variable_of, name_of, group_of, is_name_number, space_at, mark_at, has_price, has_condition, digit_of, width_of, number_width, number_at, is_group_line, has_head, owner_end, head_end, prices_end, price_count, condition_count, is_rule_line}
-use Rattle.model.proofs.Tests.{and-false_right, both_true}
-use Rattle.forms.specs.Forms.{price_in, condition_in, group_line_in, head_read, head_in, rule_form_in}
-use Rattle.letters.specs.declared.Number.{Number}
+use Rattle.model.specs.Limits.{variable_count}
+use Rattle.model.specs.Reader.{kind_of, variable_of, name_of, named, group_of, mark_at, has_price, price_at, price_width, has_condition, condition_at, condition_width}
+use Rattle.model.specs.Reader.{number_width, number_at, owner_end, head_end, has_head, rule_read, is_group_line}
+use Rattle.model.proofs.Tests.{eq-T, T-eq, eqb_ne, ne_eqb, never_true, lt_or_ge}
+use borrow.Author.Tests.{leb-true, leb-false, eq-eqb, eqb-true, not-true, not-false}
+use Rattle.std.specs.Borrow.{Bor}
+use Rattle.letters.proofs.Numbers.{inside}
+use Rattle.letters.specs.Letters.{variable_said, name_said, Read, Begins}
+use Rattle.letters.specs.declared.names.Variable.{Variable}
+use Rattle.letters.specs.declared.names.Name.{Name}
+use Rattle.forms.specs.Forms.{price_said, condition_said, head_said, group_line_in}
 use Rattle.forms.specs.declared.rules.Condition.TheVariants.{InGroup, SameIssuer}
-use Rattle.forms.specs.declared.rules.Head.{Head}
-use Rattle.std.proofs.lemmas.Option.{cond_some}
-use Rattle.ascii.proofs.Options.{cond_none}
+use Rattle.model.proofs.Facts.{facts}
+
+-- what a pattern calls the rest after k bytes
+abbrev past : ℕ → List ℕ → List ℕ
+past k w = take (length w - k) (drop k w)
 
 -- `then_some`, as the definitions say it
 pub chosen : {A : Type 0} (b : Bool) (x : A) → then_some b x ≡ (if b then Some x else None)
 chosen true x = refl
 chosen false x = refl
 
-pub there : {A : Type 0} (b : Bool) (x : A) → is_some (if b then Some x else None) ≡ b
-there true x = refl
-there false x = refl
+pub chosen_where : {A N : Type 0} (Y : A → Type 0) (b : Bool) (x : A) → (b ≡ false → N) → (b ≡ true → Y x) → MatchOption (then_some b x) N Y
+chosen_where Y true x f g = g refl
+chosen_where Y false x f g = f refl
 
 -- ---- a price
 
-module _ (w : List ℕ) (p : ℕ) where
-  abbrev mark : Bool
-  mark = mark_at w p (code "<")
+pub record PriceHere (w : List ℕ) : Type 0 where
+  pub space : get_or w 0 0 ≡ code " "
+  pub sign : get_or w 1 0 ≡ code "<"
+  pub giver_space : get_or w 2 0 ≡ code " "
+  pub giver : variable_of (get_or w 3 0) < variable_count
+  pub kind_space : get_or w 4 0 ≡ code " "
+  pub kind : 1 ≤ kind_of (get_or w 5 0)
+  pub receiver_space : get_or w 6 0 ≡ code " "
+  pub receiver : name_of (get_or w 7 0) ≤ variable_count
+  pub others : variable_of (get_or w 3 0) ≢ name_of (get_or w 7 0)
 
-  abbrev V : Bool
-  V = is_variable (variable_of (get_or w (p + 3) 0))
+-- a line that ends before a price's last byte has none there
+pub price_long : (w : List ℕ) → PriceHere w → price_width ≤ length w
+unfolding name_of variable_of
+price_long w p =
+    ⊎_elim
+    (λ l. let r = p.receiver in let none : 9 ≤ variable_count = rw (get_or-eq_default w 0 {n = 7} (omega arith)) at r in omega arith)
+    (λ l. l)
+    (lt_or_ge (length w) price_width)
 
-  abbrev K : Bool
-  K = leb 1 (kind_of (get_or w (p + 5) 0))
-
-  abbrev N : Bool
-  N = is_name_number (name_of (get_or w (p + 7) 0))
-
-  pub no_giver : V ≡ false → price_in w p ≡ None
-  unfolding has_price
-  no_giver e = rw (e, and-false_right mark)
-
-  pub no_price_kind : K ≡ false → price_in w p ≡ None
-  unfolding has_price
-  no_price_kind e = rw (e, and-false_right V, and-false_right mark)
-
-  pub no_receiver : N ≡ false → price_in w p ≡ None
-  unfolding has_price
-  no_receiver e = rw (e, and-false_right K, and-false_right V, and-false_right mark)
-
-  pub price_is : {g k r : ℕ} (m s : Bool) → (V ≡ true) × (variable_of (get_or w (p + 3) 0) ≡ g) → (K ≡ true) × (kind_of (get_or w (p + 5) 0) ≡ k)
-      → (N ≡ true) × (name_of (get_or w (p + 7) 0) ≡ r) → m ≡ mark → s ≡ (space_at w (p + 4) && space_at w (p + 6))
-      → (if m && (not (eqb g r) && s) then Some (record { giver = g; kind = k; receiver = r }) else None) ≡ price_in w p
-  unfolding has_price
-  price_is m s (v, a) (k, b) (n, d) x y = rw (x, y, ← a, ← b, ← d, v, k, n)
-
-  pub price_from : price_in (drop p w) 0 ≡ price_in w p
+module _ (w : List ℕ) where
+  pub price_here : has_price w 0 ≡ true → PriceHere w
   unfolding has_price mark_at
-  price_from = simp (get_or-drop, zero-add, add-zero)
+  price_here e =
+      let ((a, (b, c)), (d, (f, (g, (h, (i, j)))))) = simp facts at (eq-T e) in
+      record { space = a; sign = b; giver_space = c; giver = d; kind = f; receiver = g; others = h; kind_space = i; receiver_space = j }
 
-  pub no_price : length w < p → price_in w p ≡ None
-  no_price l = rw (sym (price_short w p (omega arith)))
+  pub no_price : (PriceHere w → ⊥) → has_price w 0 ≡ false
+  no_price f = never_true _ (λ e. f (price_here e))
+
+  pub is_price : PriceHere w → has_price w 0 ≡ true
+  unfolding has_price mark_at
+  is_price p =
+      T-eq _ (simp facts ((p.space, (p.sign, p.giver_space)), (p.giver, (p.kind, (p.receiver, (p.others, (p.kind_space, p.receiver_space)))))))
+
+  -- what its pattern finds, but for the giver and the receiver that may be the same
+  pub price_begins : {g : Variable} {k : ℕ} {r : Name} (rest : Bor (List ℕ)) (d : Bool) → d ≡ not (eqb (variable_of (get_or w 3 0)) (name_of (get_or w 7 0)))
+      → (variable_of (get_or w 3 0) ≢ name_of (get_or w 7 0) → PriceHere w) → rest.now ≡ drop price_width w
+      → variable_said (variable_of (get_or w 3 0)) ≡ g → kind_of (get_or w 5 0) ≡ k → name_said (named (name_of (get_or w 7 0))) ≡ r
+      → Begins (has_price w 0) (price_said (price_at w 0)) price_width w (if d then Some (record { giver = g; kind = k; receiver = r }, rest) else None)
+  unfolding price_at
+  price_begins rest true e here after a b c =
+      let p = here (eqb_ne _ _ (not-true _ (sym e))) in
+      record { here = is_price p; says = rw (a, b, c); fits = price_long w p; left = after }
+  price_begins rest false e here after a b c = never_true _ (λ h. (price_here h).others (eqb-true _ _ (not-false _ (sym e))))
 
 -- ---- a condition
 
-module _ (w : List ℕ) (p : ℕ) where
-  abbrev asked : Bool
-  asked = mark_at w p (code "?")
+pub record ConditionHere (w : List ℕ) : Type 0 where
+  pub space : get_or w 0 0 ≡ code " "
+  pub sign : ((get_or w 1 0 ≡ code "?") × (1 ≤ group_of (get_or w 3 0))) ⊎ ((get_or w 1 0 ≡ code "=") × (name_of (get_or w 3 0) ≤ variable_count))
+  pub first_space : get_or w 2 0 ≡ code " "
+  pub second_space : get_or w 4 0 ≡ code " "
+  pub second : name_of (get_or w 5 0) ≤ variable_count
 
-  abbrev alike : Bool
-  alike = mark_at w p (code "=")
+pub condition_long : (w : List ℕ) → ConditionHere w → condition_width ≤ length w
+unfolding name_of variable_of
+condition_long w p =
+    ⊎_elim
+    (λ l. let r = p.second in let none : 9 ≤ variable_count = rw (get_or-eq_default w 0 {n = 5} (omega arith)) at r in omega arith)
+    (λ l. l)
+    (lt_or_ge (length w) condition_width)
 
-  abbrev G : Bool
-  G = leb 1 (group_of (get_or w (p + 3) 0))
-
-  abbrev Y : Bool
-  Y = is_name_number (name_of (get_or w (p + 3) 0))
-
-  abbrev Z : Bool
-  Z = is_name_number (name_of (get_or w (p + 5) 0))
-
-  pub no_name : Z ≡ false → condition_in w p ≡ None
-  unfolding has_condition
-  no_name e = rw (e, and-false_right (space_at w (p + 4)), and-false_right ((asked && G) || (alike && Y)))
-
-  pub no_space : space_at w (p + 4) ≡ false → condition_in w p ≡ None
-  unfolding has_condition
-  no_space e = rw (e, and-false_right ((asked && G) || (alike && Y)))
-
-  -- the byte after the first space
-  pub sign : (x : ℕ) → mark_at w p x ≡ true → get_or w (p + 1) 0 ≡ x
-  unfolding mark_at
-  sign x e =
-      let a = both_true (space_at w p) (eqb (get_or w (p + 1) 0) x && space_at w (p + 2)) e in
-      eqb-true _ _ (both_true (eqb (get_or w (p + 1) 0) x) (space_at w (p + 2)) a.1).0
-
-  other : (x y : ℕ) → x ≢ y → mark_at w p x ≡ true → mark_at w p y ≡ false
-  unfolding mark_at
-  other x y d e = let s = sign x e in rw (s, ne_eqb x y d, and-false_right (space_at w p))
-
-  pub no_group : asked ≡ true → G ≡ false → condition_in w p ≡ None
-  unfolding has_condition
-  no_group a e = rw (a, e, other (code "?") (code "=") (λ z. omega arith) a)
-
-  pub no_first : asked ≡ false → Y ≡ false → condition_in w p ≡ None
-  unfolding has_condition
-  no_first a e = rw (a, e, and-false_right alike)
-
-  pub no_sign : asked ≡ false → alike ≡ false → condition_in w p ≡ None
-  unfolding has_condition
-  no_sign a b = rw (a, b)
-
-  module _ {z : ℕ} (spaced : space_at w (p + 4) ≡ true) (name : (Z ≡ true) × (name_of (get_or w (p + 5) 0) ≡ z)) where
-    pub is_in_group : {g : ℕ} → asked ≡ true → (G ≡ true) × (group_of (get_or w (p + 3) 0) ≡ g) → Some (InGroup g z) ≡ condition_in w p
-    unfolding has_condition
-    is_in_group a (g, e) = rw (a, g, spaced, name.0, eq-eqb _ _ (sign (code "?") a), e, name.1)
-
-    pub is_same_issuer : {y : ℕ} → asked ≡ false → alike ≡ true → (Y ≡ true) × (name_of (get_or w (p + 3) 0) ≡ y) → Some (SameIssuer y z) ≡ condition_in w p
-    unfolding has_condition
-    is_same_issuer a b (n, e) =
-        let q : eqb (get_or w (p + 1) 0) (code "?") ≡ false = rw (sign (code "=") b) refl in
-        rw (a, b, n, spaced, name.0, q, e, name.1)
-
-  pub condition_from : condition_in (drop p w) 0 ≡ condition_in w p
+module _ (w : List ℕ) where
+  pub condition_here : has_condition w 0 ≡ true → ConditionHere w
   unfolding has_condition mark_at
-  condition_from = simp (get_or-drop, zero-add, add-zero)
+  condition_here e =
+      let (signed, (b, c)) = simp facts at (eq-T e) in
+      ⊎_elim
+      (λ t. let ((a, (s, f)), g) = simp facts at t in record { space = a; sign = inl (s, g); first_space = f; second_space = b; second = c })
+      (λ t. let ((a, (s, f)), g) = simp facts at t in record { space = a; sign = inr (s, g); first_space = f; second_space = b; second = c })
+      signed
 
-  pub no_condition : length w < p → condition_in w p ≡ None
-  no_condition l = rw (sym (condition_short w p (omega arith)))
+  pub no_condition : (ConditionHere w → ⊥) → has_condition w 0 ≡ false
+  no_condition f = never_true _ (λ e. f (condition_here e))
+
+  pub is_condition : ConditionHere w → has_condition w 0 ≡ true
+  unfolding has_condition mark_at
+  is_condition p =
+      let signed =
+      ⊎_elim
+      (λ s. inl (simp facts ((p.space, (s.0, p.first_space)), s.1)))
+      (λ s. inr (simp facts ((p.space, (s.0, p.first_space)), s.1)))
+      p.sign in
+      T-eq _ (simp facts (signed, (p.second_space, p.second)))
+
+  -- what its two patterns find
+  module _ (p : ConditionHere w) {n : Name} {rest : List ℕ} (after : rest ≡ drop condition_width w) (name : name_said (named (name_of (get_or w 5 0))) ≡ n) where
+    pub group_read : {g : ℕ} → get_or w 1 0 ≡ code "?" → group_of (get_or w 3 0) ≡ g
+        → Read (has_condition w 0) (condition_said (condition_at w 0)) condition_width w (InGroup g n) rest
+    unfolding condition_at
+    group_read e b = record { here = is_condition p; says = rw (eq-eqb _ _ e, b, name); fits = condition_long w p; left = after }
+
+    pub issuer_read : {y : Name} → get_or w 1 0 ≡ code "=" → name_said (named (name_of (get_or w 3 0))) ≡ y
+        → Read (has_condition w 0) (condition_said (condition_at w 0)) condition_width w (SameIssuer y n) rest
+    unfolding condition_at
+    issuer_read e b = record { here = is_condition p; says = rw (ne_eqb (get_or w 1 0) (code "?") (omega (arith, e)), b, name); fits = condition_long w p; left = after }
+
+-- ---- a number m at the place k of a line, which v follows
+
+pub record NumberHere (w : List ℕ) (k m : ℕ) (v : List ℕ) : Type 0 where
+  pub some : 1 ≤ number_width w k
+  pub says : m ≡ number_at w k
+  pub left : v ≡ drop (k + number_width w k) w
+  pub fits : k + number_width w k ≤ length w
+
+module _ (w : List ℕ) (k : ℕ) where
+  width_from : number_width (drop k w) 0 ≡ number_width w k
+  unfolding number_width
+  width_from = simp (get_or-drop, add-zero)
+
+  number_from : number_at (drop k w) 0 ≡ number_at w k
+  unfolding number_at
+  number_from = simp (get_or-drop, add-zero)
+
+  pub no_number : leb 1 (number_width (past k w) 0) ≡ false → number_width w k < 1
+  no_number e = leb-false 1 _ (rw (to_end w k, width_from) at e)
+
+  pub number_here : {m : ℕ} {v : List ℕ} → Read (leb 1 (number_width (past k w) 0)) (number_at (past k w) 0) (number_width (past k w) 0) (past k w) m v → NumberHere w k m v
+  number_here r =
+      let s = leb-true 1 _ (rw (to_end w k, width_from) at r.here) in
+      record {
+        some = s;
+        says = rw (to_end w k, number_from) at r.says;
+        left = (rw (to_end w k, width_from) at r.left) ∙ drop-drop (number_width w k) k w;
+        fits = let l = rw (to_end w k, width_from) at r.fits in omega (arith, l, length-drop k w);
+      }
+
+-- ---- a rule line's head: v follows its owner
+
+pub record HeadRest (v : List ℕ) : Type 0 where
+  pub kind_space : get_or v 0 0 ≡ code " "
+  pub kind : 1 ≤ kind_of (get_or v 1 0)
+  pub receiver_space : get_or v 2 0 ≡ code " "
+  pub receiver : variable_of (get_or v 3 0) < variable_count
+
+pub rest_long : {v : List ℕ} → HeadRest v → 4 ≤ length v
+rest_long {v} r = let b = variable_letter_lem (get_or v 3 0) (let l = r.receiver in omega arith) in inside v 3 (omega arith)
+
+pub record HeadHere (w : List ℕ) : Type 0 where
+  pub space : get_or w 1 0 ≡ code " "
+  pub owner : 1 ≤ number_width w 2
+  pub rest : HeadRest (drop (owner_end w) w)
+
+module _ (w : List ℕ) where
+  rest_at : (i : ℕ) → get_or (drop (owner_end w) w) i 0 ≡ get_or w (owner_end w + i) 0
+  rest_at i = get_or-drop (owner_end w) w i 0
+
+  rest_first : get_or (drop (owner_end w) w) 0 0 ≡ get_or w (owner_end w) 0
+  rest_first = rest_at 0 ∙ ap (λ n. get_or w n 0) (add-zero (owner_end w))
+
+  pub head_here : has_head w ≡ true → HeadHere w
+  unfolding has_head
+  head_here e =
+      let (a, (b, (c, (d, (f, g))))) = simp facts at (eq-T e) in
+      record {
+        space = a;
+        owner = b;
+        rest = record { kind_space = rest_first ∙ c; kind = rw (rest_at 1) d; receiver_space = rest_at 2 ∙ f; receiver = rw (rest_at 3) g };
+      }
+
+  pub no_head : (HeadHere w → ⊥) → has_head w ≡ false
+  no_head f = never_true _ (λ e. f (head_here e))
+
+  pub is_head : HeadHere w → has_head w ≡ true
+  unfolding has_head
+  is_head p =
+      let r = p.rest in
+      T-eq _ (simp facts (p.space, (p.owner, (sym rest_first ∙ r.kind_space, (rw (← rest_at 1) r.kind, (sym (rest_at 2) ∙ r.receiver_space, rw (← rest_at 3) r.receiver))))))
+
+  -- what its two patterns find
+  pub head_read : {k m : ℕ} {v rest : List ℕ} {g : Variable} → get_or w 1 0 ≡ code " " → NumberHere w 2 m v → HeadRest v → rest ≡ drop 4 v
+      → kind_of (get_or v 1 0) ≡ k → variable_said (variable_of (get_or v 3 0)) ≡ g
+      → Read (has_head w) (head_said (rule_read w)) (head_end w) w (record { owner = m; kind = k; receiver = g }) rest
+  unfolding rule_read
+  head_read a n p after b c =
+      let l = rest_long p in
+      let size = ap length n.left in
+      record {
+        here = is_head (record { space = a; owner = n.some; rest = rw n.left at p });
+        says = rw (← b, ← c, n.left, n.says, rest_at 1, rest_at 3) refl;
+        fits = omega (arith, l, size, length-drop (owner_end w) w);
+        left = after ∙ ap (λ (v : List ℕ). drop 4 v) n.left ∙ drop-drop 4 (owner_end w) w;
+      }
 
 -- ---- a group line
 
-and_assoc : (a b c : Bool) → ((a && b) && c) ≡ (a && (b && c))
-and_assoc true b c = refl
-and_assoc false b c = refl
-
-and-true_right : (a : Bool) → (a && true) ≡ a
-and-true_right true = refl
-and-true_right false = refl
+pub record GroupHere (w : List ℕ) : Type 0 where
+  pub space : get_or w 1 0 ≡ code " "
+  pub group : 1 ≤ group_of (get_or w 2 0)
+  pub card_space : get_or w 3 0 ≡ code " "
+  pub card : 1 ≤ number_width w 4
+  pub ended : 4 + number_width w 4 ≡ length w
 
 module _ (w : List ℕ) where
-  pub no_group_line-group : leb 1 (group_of (get_or w 2 0)) ≡ false → group_line_in w ≡ None
+  pub group_here : is_group_line w ≡ true → GroupHere w
   unfolding is_group_line
-  no_group_line-group e = rw (e, and-false_right (space_at w 1))
+  group_here e =
+      let (a, (b, (c, (d, f)))) = simp facts at (eq-T e) in
+      record { space = a; group = b; card_space = c; card = d; ended = f }
 
-  pub no_group_line-card : leb 1 (number_width w 4) ≡ false → group_line_in w ≡ None
+  pub is_group : GroupHere w → is_group_line w ≡ true
   unfolding is_group_line
-  no_group_line-card e = rw (e, and-false_right (space_at w 3), and-false_right (leb 1 (group_of (get_or w 2 0))), and-false_right (space_at w 1))
+  is_group p = T-eq _ (simp facts (p.space, (p.group, (p.card_space, (p.card, p.ended)))))
 
-  pub group_line_is : {g : ℕ} {m : Number} (a b : Bool) → (leb 1 (group_of (get_or w 2 0)) ≡ true) × (group_of (get_or w 2 0) ≡ g)
-      → (leb 1 (number_width w 4) ≡ true) × (◌≡◌ {A = Number} (record { value = number_at w 4; width = number_width w 4 }) m)
-      → a ≡ space_at w 1 → b ≡ space_at w 3
-      → (if (a && b) && eqb (4 + m.width) (length w) then Some (record { group = g; card = m.value }) else None) ≡ group_line_in w
-  unfolding is_group_line
-  group_line_is a b (p, g) (q, m) x y =
-      rw (← m, ← g, x, y, p, q, and_assoc (space_at w 1) (space_at w 3) (eqb (4 + number_width w 4) (length w)))
+  pub no_group_line : (GroupHere w → ⊥) → None ≡ group_line_in w
+  no_group_line f = rw (never_true _ (λ e. f (group_here e)))
 
-  -- ---- a rule line's head
-
-  pub no_owner : leb 1 (number_width w 2) ≡ false → head_in w ≡ None
-  unfolding has_head
-  no_owner e = rw (e, and-false_right (space_at w 1))
-
-  pub no_head-kind : leb 1 (kind_of (get_or w (owner_end w + 1) 0)) ≡ false → head_in w ≡ None
-  unfolding has_head
-  no_head-kind e = rw (e, and-false_right (space_at w (owner_end w)), and-false_right (leb 1 (number_width w 2)), and-false_right (space_at w 1))
-
-  pub no_head-receiver : is_variable (variable_of (get_or w (owner_end w + 3) 0)) ≡ false → head_in w ≡ None
-  unfolding has_head
-  no_head-receiver e =
-      let k = leb 1 (kind_of (get_or w (owner_end w + 1) 0)) in
-      rw (e, and-false_right (space_at w (owner_end w + 2)), and-false_right k, and-false_right (space_at w (owner_end w)), and-false_right (leb 1 (number_width w 2)), and-false_right (space_at w 1))
-
-  pub head_is : {k v : ℕ} {m : Number} (a b d : Bool)
-      → (leb 1 (number_width w 2) ≡ true) × (◌≡◌ {A = Number} (record { value = number_at w 2; width = number_width w 2 }) m)
-      → (leb 1 (kind_of (get_or w (2 + m.width + 1) 0)) ≡ true) × (kind_of (get_or w (2 + m.width + 1) 0) ≡ k)
-      → (is_variable (variable_of (get_or w (2 + m.width + 3) 0)) ≡ true) × (variable_of (get_or w (2 + m.width + 3) 0) ≡ v)
-      → a ≡ space_at w 1 → b ≡ space_at w (2 + m.width) → d ≡ space_at w (2 + m.width + 2)
-      → (if a && (b && d) then Some (record { owner = m.value; kind = k; receiver = v; end = 2 + m.width + 4 }) else None) ≡ head_in w
-  unfolding has_head
-  head_is {k} {v} {m} a b d (p, e) q r x y z =
-      let P : Number → Type 0 = λ n.
-      (leb 1 (kind_of (get_or w (2 + n.width + 1) 0)) ≡ true) × (kind_of (get_or w (2 + n.width + 1) 0) ≡ k)
-      → (is_variable (variable_of (get_or w (2 + n.width + 3) 0)) ≡ true) × (variable_of (get_or w (2 + n.width + 3) 0) ≡ v)
-      → b ≡ space_at w (2 + n.width) → d ≡ space_at w (2 + n.width + 2)
-      → (if a && (b && d) then Some (record { owner = n.value; kind = k; receiver = v; end = 2 + n.width + 4 }) else None) ≡ head_in w in
-      subst P e (λ (f, k') (g, v') y' z'. rw (← k', ← v', x, y', z', p, f, g, and-true_right (space_at w (2 + number_width w 2 + 2)))) q r y z
-
-  -- the width of m
-  width-short : number_width w 2 ≤ 2
-  unfolding number_width width_of
-  width-short = go (leb 1 d && leb d 9) (leb (digit_of (get_or w 3 0)) 9)
-    where
-      d : ℕ
-      d = digit_of (get_or w 2 0)
-
-      go : (a b : Bool) → cond a (cond b 2 1) 0 ≤ 2
-      go true true = omega arith
-      go true false = omega arith
-      go false b = omega arith
-
-  pub end_short : head_end w ≤ 8
-  end_short = omega (arith, width-short)
-
-  -- a rule line's head, by its answer
-  pub headed : {h : Head} → head_in w ≡ Some h → (has_head w ≡ true) × (h.end ≡ head_end w) × (h.end ≤ 8)
-  headed {h} e =
-      let (t, q) = cond_some (has_head w) (head_read w) h e in
-      let r : head_end w ≡ h.end = ap (λ x. x.end) q in
-      (t, sym r, omega (arith, width-short))
-
-  pub no_head : head_in w ≡ None → rule_form_in w ≡ None
-  unfolding is_rule_line
-  no_head e = rw (cond_none (has_head w) (head_read w) e)
-
-  pub rule_form_is : {h : Head} {p q t : ℕ} → head_in w ≡ Some h → p ≡ price_count w (head_end w) → t ≡ prices_end w → q ≡ condition_count w (prices_end w)
-      → (if eqb (t + q * 6) (length w) then Some (record { head = h; prices = p; tail = t; conditions = q }) else None) ≡ rule_form_in w
-  unfolding is_rule_line
-  rule_form_is {h} e a b d = let (x, y) = cond_some (has_head w) (head_read w) h e in rw (a, b, d, x, ← y)
+  -- what its patterns find, but for what may follow m
+  pub group_line_is : {g m : ℕ} {v : List ℕ} (b : Bool) → b ≡ eqb (length v) 0 → NumberHere w 4 m v → (4 + number_width w 4 ≡ length w → GroupHere w)
+      → group_of (get_or w 2 0) ≡ g → (if b then Some (record { group = g; card = m }) else None) ≡ group_line_in w
+  group_line_is {v = v} true e n here a =
+      let none = eqb-true (length v) 0 (sym e) in
+      let size = ap length n.left in
+      let f = n.fits in
+      let p = here (omega (arith, none, size, f, length-drop (4 + number_width w 4) w)) in
+      rw (is_group p, a, n.says)
+  group_line_is {v = v} false e n here a =
+      no_group_line (λ p. let d = eqb_ne (length v) 0 (sym e) in let size = ap length n.left in let f = p.ended in d (omega (arith, size, f, length-drop (4 + number_width w 4) w)))

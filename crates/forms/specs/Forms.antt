@@ -1,7 +1,10 @@
--- What is told of a group line, of a rule line and of its parts, if they have the form.
-use Rattle.std.specs.Prelude.{Option, Some, None, if◌then◌else◌, List, ℕ, ◌+◌, eqb, get_or}
-use Prim.Native.Char.{code}
-use Rattle.model.specs.Reader.{kind_of, variable_of, name_of, group_of, number_at, owner_end, head_end, prices_end, has_price, has_condition, has_head, price_count, condition_count, is_group_line, is_rule_line}
+-- What is told of a group line and of a rule line, if they have the form: what the model's reader reads, as the program says it.
+use Rattle.std.specs.Prelude.{Option, Some, None, if◌then◌else◌, List, [], ◌∷◌, map, ℕ, zero, suc, get_or}
+use Rattle.model.specs.Limits.{price_limit, condition_limit}
+use Rattle.model.specs.Grammar as model
+use Rattle.model.specs.Grammar.{in_group, same_issuer, Rule}
+use Rattle.model.specs.Reader.{group_of, number_at, rule_read, is_group_line, is_rule_line}
+use Rattle.letters.specs.Letters.{variable_said, name_said}
 use Rattle.forms.specs.declared.groups.GroupLine.{GroupLine}
 use Rattle.forms.specs.declared.rules.Price.{Price}
 use Rattle.forms.specs.declared.rules.Condition.{Condition}
@@ -9,9 +12,7 @@ use Rattle.forms.specs.declared.rules.Condition.TheVariants.{InGroup, SameIssuer
 use Rattle.forms.specs.declared.rules.Head.{Head}
 use Rattle.forms.specs.declared.rules.RuleForm.{RuleForm}
 
--- no rule line is longer than this: `R 99 K v`, four prices, four conditions
-abbrev pub longest : ℕ
-longest = 64
+-- ---- a group line
 
 abbrev pub group_line_read : List ℕ → GroupLine
 group_line_read w = record { group = group_of (get_or w 2 0); card = number_at w 4 }
@@ -19,40 +20,30 @@ group_line_read w = record { group = group_of (get_or w 2 0); card = number_at w
 abbrev pub group_line_in : List ℕ → Option GroupLine
 group_line_in w = if is_group_line w then Some (group_line_read w) else None
 
--- the price, and the condition, at the line's place p
-abbrev pub price_read : List ℕ → ℕ → Price
-price_read w p = record { giver = variable_of (get_or w (p + 3) 0); kind = kind_of (get_or w (p + 5) 0); receiver = name_of (get_or w (p + 7) 0) }
+-- ---- a rule line
 
-abbrev pub price_in : List ℕ → ℕ → Option Price
-price_in w p = if has_price w p then Some (price_read w p) else None
+abbrev pub price_said : model.Price → Price
+price_said p = record { giver = variable_said p.from; kind = p.kind; receiver = name_said p.to }
 
-abbrev pub condition_read : List ℕ → ℕ → Condition
-condition_read w p =
-    if eqb (get_or w (p + 1) 0) (code "?") then InGroup (group_of (get_or w (p + 3) 0)) (name_of (get_or w (p + 5) 0))
-    else SameIssuer (name_of (get_or w (p + 3) 0)) (name_of (get_or w (p + 5) 0))
+abbrev pub condition_said : model.Condition → Condition
+condition_said (in_group g z) = InGroup g (name_said z)
+condition_said (same_issuer y z) = SameIssuer (name_said y) (name_said z)
 
-abbrev pub condition_in : List ℕ → ℕ → Option Condition
-condition_in w p = if has_condition w p then Some (condition_read w p) else None
+abbrev pub head_said : Rule → Head
+head_said r = record { owner = r.owner; kind = r.kind; receiver = variable_said r.head }
 
-abbrev pub head_read : List ℕ → Head
-head_read w = record {
-  owner = number_at w 2;
-  kind = kind_of (get_or w (owner_end w + 1) 0);
-  receiver = variable_of (get_or w (owner_end w + 3) 0);
-  end = head_end w;
-}
+-- these things in the first of n places, and none in the others
+abbrev pub in_places : {A : Type 0} → ℕ → List A → List (Option A)
+in_places zero xs = []
+in_places (suc n) [] = None ∷ in_places n []
+in_places (suc n) (x ∷ xs) = Some x ∷ in_places n xs
 
-abbrev pub head_in : List ℕ → Option Head
-head_in w = if has_head w then Some (head_read w) else None
-
--- a rule line's head, and where its prices and conditions are
-abbrev pub form_read : List ℕ → RuleForm
-form_read w = record {
-  head = head_read w;
-  prices = price_count w (head_end w);
-  tail = prices_end w;
-  conditions = condition_count w (prices_end w);
+abbrev pub form_said : Rule → RuleForm
+form_said r = record {
+  head = head_said r;
+  prices = in_places price_limit (map price_said r.prices);
+  conditions = in_places condition_limit (map condition_said r.conditions);
 }
 
 abbrev pub rule_form_in : List ℕ → Option RuleForm
-rule_form_in w = if is_rule_line w then Some (form_read w) else None
+rule_form_in w = if is_rule_line w then Some (form_said (rule_read w)) else None

@@ -1,23 +1,23 @@
--- Card numbers as the program holds them.
+-- Card lines and card numbers as the program holds them.
 use Rattle.std.specs.Prelude.{Option, Some, None, if◌then◌else◌, Bool, ◌&&◌, List, ℕ, leb, length, get_or, take}
 use Rattle.model.specs.Limits.{most_digits}
 use Rattle.model.specs.Lists.{up_to}
 use Rattle.model.specs.Reader.{is_card_line, card_read}
 use Rattle.model.specs.Opening.{card_digits, is_card_number}
-use Rattle.forms.specs.declared.cards.CardNumber.{CardNumber}
+use Rattle.forms.specs.declared.cards.CardLine.{CardLine}
+use Rattle.forms.specs.declared.numbers.CardNumber.{CardNumber}
 
--- the number of these digits: how many there are, and the first 19, zeros after the last
-abbrev pub in_row : List ℕ → CardNumber
+-- these digits: how many there are, and the first 19, zeros after the last
+abbrev pub in_row : List ℕ → CardLine
 in_row ds = record { count = length ds; digits = up_to (λ d. get_or ds d 0) most_digits }
 
--- the number of a line that has a card line's form
-abbrev pub card_number_in : List ℕ → Option CardNumber
-card_number_in w = if is_card_line w then Some (in_row (card_digits (card_read w))) else None
+-- what a line says that has a card line's form
+abbrev pub card_line_in : List ℕ → Option CardLine
+card_line_in w = if is_card_line w then Some (in_row (card_digits (card_read w))) else None
 
--- the digits of a number that has at most 19
+-- question 4
+unfoldable pub is_number_in : CardLine → Bool
+is_number_in n = leb n.count most_digits && is_card_number (take n.count n.digits)
+
 abbrev pub digits_in : CardNumber → List ℕ
 digits_in n = take n.count n.digits
-
--- question 4 of a number
-unfoldable pub is_number_in : CardNumber → Bool
-is_number_in n = leb n.count most_digits && is_card_number (digits_in n)

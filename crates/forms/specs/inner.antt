@@ -1,2 +1,3 @@
 -- Private contracts: nothing below has to be believed, since no contract of an exported function names it.
 pub mod Words
+pub mod Parts

@@ -1,21 +1,21 @@
-// Card lines, `C digits` with a hyphen between two printed groups of digits, and card numbers.
-ghost use Rattle.std.specs.Prelude.{◌≡◌, ◌≤◌, set};
-ghost use Rattle.model.specs.Limits.{most_digits};
-ghost use Rattle.model.specs.CardNumbers.{weighed, luhn};
-ghost use Rattle.forms.specs.Numbers.{card_number_in, digits_in, is_number_in};
-ghost use Rattle.forms.specs.inner.Words.{word_number_in};
+// Card lines: `C digits` with a hyphen between two printed groups of digits.
+ghost use Rattle.std.specs.Prelude.{◌≡◌, not, T, MatchOption, set, take};
+ghost use Rattle.forms.specs.Numbers.{card_line_in, digits_in, is_number_in};
+ghost use Rattle.forms.specs.inner.Words.{word_in};
 
+use crate::numbers::CardNumber;
 use crate::{LEAST_DIGITS, MOST_DIGITS};
 
-// A card number: how many digits it has, and the first 19 of them, zeros after the last. The engine has no heap, so the row is of fixed size.
+// What a card line says: how many digits it has, and the first 19 of them, zeros after the last. The engine has no heap, so the row is of
+// fixed size.
 #[derive(Clone, Copy)]
-pub struct CardNumber {
+pub struct CardLine {
     pub count: usize,
-    pub digits: [u8; 19],
+    pub digits: [u8; MOST_DIGITS],
 }
 
 // Puts a digit at a place, if the row has that place: by index, since what std promises of `get_mut` leaves open what the row holds after a write.
-fn put_digit(digits: &mut [u8; 19], at: usize, d: u8)
+fn put_digit(digits: &mut [u8; MOST_DIGITS], at: usize, d: u8)
     ensures { digits.new ≡ set digits.old at d }
 {
     if at < MOST_DIGITS {
@@ -24,12 +24,13 @@ fn put_digit(digits: &mut [u8; 19], at: usize, d: u8)
 }
 
 // The number of bytes that are digits, with at most one hyphen between two of them: digits past the 19th are counted, not kept.
-fn word_number(s: &[u8]) -> Option<CardNumber>
-    ensures { result ≡ word_number_in s.now }
+fn read_word(s: &[u8]) -> Option<CardLine>
+    ensures { result ≡ word_in s.now }
 {
-    let mut digits = [0; 19];
+    let mut digits = [0; MOST_DIGITS];
     let mut count = 0;
-    // A hyphen needs a digit before it, and one after it.
+    // A hyphen needs a digit before it, and one after it: a flag, since by `split` at hyphens a group's digits are still put one by one, and an
+    // empty group is asked apart.
     let mut after_digit = false;
     for x in s {
         if let Some(d) = ascii::digit(*x) {
@@ -43,50 +44,34 @@ fn word_number(s: &[u8]) -> Option<CardNumber>
         }
         after_digit = false;
     }
-    after_digit.then_some(CardNumber { count, digits })
+    after_digit.then_some(CardLine { count, digits })
 }
 
-// The number of a line that begins with C, of which questions 4 and 5 are asked, if the line has the form.
-pub fn card_number(line: &[u8]) -> Option<CardNumber>
-    ensures { result ≡ card_number_in line.now }
+// What a line that begins with C says, if it has the form.
+#[tactic(auto, unfolding(model::specs::Reader::is_card_line, model::specs::Reader::card_read))]
+pub fn card_line(line: &[u8]) -> Option<CardLine>
+    ensures { result ≡ card_line_in line.now }
 {
-    if ascii::byte(line, 1) != b' ' {
+    let [_, b' ', word @ ..] = line else {
         return None;
-    }
-    word_number(line.get(2..)?)
+    };
+    read_word(word)
 }
 
-// What a digit counts in the check sum, with so many digits to its right.
-fn weigh(right: usize, d: u8) -> usize
-    ensures { (result ≡ weighed right d) × (result ≤ 510) }
-{
-    let x = d as usize;
-    if right % 2 != 1 {
-        return x;
+impl CardLine {
+    // Question 4: its card number, if it has one.
+    pub fn number(self) -> Option<CardNumber>
+        ensures { MatchOption result (T (not (is_number_in self))) (λ n. T (is_number_in self) × (digits_in n ≡ take self.count self.digits)) }
+    {
+        let CardLine { count, digits } = self;
+        if !(LEAST_DIGITS..=MOST_DIGITS).contains(&count) {
+            return None;
+        }
+        // By `as`: it is at most 19, and `try_from` would make an error that cannot be.
+        let number = CardNumber {
+            count: count as u8,
+            digits,
+        };
+        number.checks().then_some(number)
     }
-    if 9 < 2 * x {
-        return 2 * x - 9;
-    }
-    2 * x
-}
-
-// Whether the check digit is right: the Luhn formula.
-fn checks(number: CardNumber) -> bool
-    requires { number.count ≤ most_digits }
-    ensures { result ≡ luhn (digits_in number) }
-{
-    let n = number.count;
-    // A loop: what a chain's `sum` asks, that no sum of its turns is too large, was not proved of a chain that is reversed and numbered.
-    let mut sum = 0;
-    for (i, d) in number.digits[..n].iter().enumerate() {
-        sum += weigh(n - (i + 1), *d);
-    }
-    sum % 10 == 0
-}
-
-// Question 4.
-pub fn is_card_number(number: CardNumber) -> bool
-    ensures { result ≡ is_number_in number }
-{
-    (LEAST_DIGITS..=MOST_DIGITS).contains(&number.count) && checks(number)
 }

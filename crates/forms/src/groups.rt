@@ -9,13 +9,14 @@ pub struct GroupLine {
     pub card: u8,
 }
 
+#[tactic(auto, using(crate::proofs::Parts::no_group_line, crate::proofs::Parts::no_number, letters::proofs::NameLaws::absent))]
 pub fn group_line(line: &[u8]) -> Option<GroupLine>
     ensures { result ≡ group_line_in line.now }
 {
-    let group = letters::group(ascii::byte(line, 2))?;
-    let m = letters::number_at(line, 4)?;
-    let spaced = (ascii::byte(line, 1) == b' ') & (ascii::byte(line, 3) == b' ');
-    let ended = 4 + m.width == line.len();
-    let card = m.value;
-    (spaced & ended).then_some(GroupLine { group, card })
+    let [_, b' ', g, b' ', rest @ ..] = line else {
+        return None;
+    };
+    let group = letters::group(*g)?;
+    let (card, rest) = letters::number(rest)?;
+    rest.is_empty().then_some(GroupLine { group, card })
 }

@@ -4,21 +4,19 @@
 
 mod cards;
 mod groups;
+mod numbers;
 mod rules;
 
-pub use cards::{CardNumber, card_number, is_card_number};
+pub use cards::{CardLine, card_line};
 pub use groups::{GroupLine, group_line};
-pub use rules::{Condition, Head, Price, RuleForm, condition_at, price_at, rule_form};
+pub use numbers::CardNumber;
+pub use rules::{Condition, Head, Price, RuleForm, rule_form};
 
+// The limits as lengths: by `as`, since a constant calls no `From`.
 const LEAST_DIGITS: usize = limits::LEAST_DIGITS as usize;
 
-const MOST_DIGITS: usize = limits::MOST_DIGITS as usize;
+pub const MOST_DIGITS: usize = limits::MOST_DIGITS as usize;
 
 const PRICE_LIMIT: usize = limits::PRICE_LIMIT as usize;
 
 const CONDITION_LIMIT: usize = limits::CONDITION_LIMIT as usize;
-
-// The bytes of a price and of a condition.
-pub const PRICE_WIDTH: usize = 8;
-
-pub const CONDITION_WIDTH: usize = 6;

@@ -1,158 +1,137 @@
-// Rule lines: `R m K v`, then prices ` < w K y`, then conditions ` ? g z` or ` = z z`.
-ghost use Rattle.std.specs.Prelude.{◌≡◌, ◌+◌, ◌*◌, ◌≤◌, ◌<◌, ℕ, Bool};
-ghost use Rattle.model.specs.Reader.{mark_at, leading, price_width, condition_width, has_price, has_condition};
-ghost use Rattle.forms.specs.Forms.{longest, price_in, condition_in, head_in, rule_form_in};
+// Rule lines: `R m K v`, then prices ` < w K y`, then conditions ` ? g z` or ` = z z`. What reads a part of a line hands on what follows it.
+ghost use Rattle.std.specs.Prelude.{◌≡◌, ℕ, List, Bool};
+ghost use Rattle.model.specs.Reader.{has_price, price_at, price_width, has_condition, condition_at, condition_width, has_head, rule_read, head_end};
+ghost use Rattle.letters.specs.Letters.{Begins};
+ghost use Rattle.forms.specs.Forms.{price_said, condition_said, head_said, rule_form_in};
+ghost use Rattle.forms.specs.inner.Parts.{Leads};
 
-use crate::{CONDITION_LIMIT, CONDITION_WIDTH, PRICE_LIMIT, PRICE_WIDTH};
+use crate::{CONDITION_LIMIT, PRICE_LIMIT};
+use letters::{Name, Variable};
 
-// The bytes of ` K v`.
-const HEAD_WIDTH: usize = 4;
-
-// What a price says: the giver gives one token of the kind to the receiver, a name.
+// What a price says: the giver gives one token of the kind to the receiver.
 #[derive(Clone, Copy)]
 pub struct Price {
-    pub giver: u8,
+    pub giver: Variable,
     pub kind: u8,
-    pub receiver: u8,
+    pub receiver: Name,
 }
 
 // What a condition says: a name is in a group, or two names have the same issuer.
 #[derive(Clone, Copy)]
 pub enum Condition {
-    InGroup(u8, u8),
-    SameIssuer(u8, u8),
+    InGroup(u8, Name),
+    SameIssuer(Name, Name),
 }
 
-// Whether a part of a line begins with x between two spaces.
-fn marked(part: &[u8], x: u8) -> bool
-    ensures { result ≡ mark_at part.now 0 x }
+// ` < w K y`, with w and y different.
+#[tactic(auto, using(crate::proofs::Parts::no_price, crate::proofs::Parts::price_long, letters::proofs::NameLaws::absent))]
+fn first_price(part: &[u8]) -> Option<(Price, &[u8])>
+    ensures { Begins (has_price part.now 0) (price_said (price_at part.now 0)) price_width part.now result }
 {
-    (ascii::byte(part, 0) == b' ') & ((ascii::byte(part, 1) == x) & (ascii::byte(part, 2) == b' '))
-}
-
-// The price that a part of a line begins with: ` < w K y`, with w and y different.
-fn first_price(part: &[u8]) -> Option<Price>
-    ensures { result ≡ price_in part.now 0 }
-{
-    let giver = letters::variable(ascii::byte(part, 3))?;
-    let kind = letters::kind(ascii::byte(part, 5))?;
-    let receiver = letters::name(ascii::byte(part, 7))?;
-    let spaced = (ascii::byte(part, 4) == b' ') & (ascii::byte(part, 6) == b' ');
-    (marked(part, b'<') & ((giver != receiver) & spaced)).then_some(Price {
+    let [b' ', b'<', b' ', w, b' ', k, b' ', y, rest @ ..] = part else {
+        return None;
+    };
+    let giver = letters::variable(*w)?;
+    let kind = letters::kind(*k)?;
+    let receiver = letters::name(*y)?;
+    let price = Price {
         giver,
         kind,
         receiver,
-    })
+    };
+    (Name::Variable(giver) != receiver).then_some((price, rest))
 }
 
-// The price at a place of a line.
-pub fn price_at(line: &[u8], at: usize) -> Option<Price>
-    ensures { result ≡ price_in line.now at }
+// ` ? g z` or ` = z z`.
+#[tactic(auto, using(crate::proofs::Parts::no_condition, crate::proofs::Parts::condition_long, letters::proofs::NameLaws::absent))]
+fn first_condition(part: &[u8]) -> Option<(Condition, &[u8])>
+    ensures { Begins (has_condition part.now 0) (condition_said (condition_at part.now 0)) condition_width part.now result }
 {
-    first_price(line.get(at..)?)
-}
-
-// The condition that a part of a line begins with: ` ? g z` or ` = z z`.
-fn first_condition(part: &[u8]) -> Option<Condition>
-    ensures { result ≡ condition_in part.now 0 }
-{
-    let x = ascii::byte(part, 3);
-    let z = letters::name(ascii::byte(part, 5))?;
-    if ascii::byte(part, 4) != b' ' {
-        return None;
-    }
-    if marked(part, b'?') {
-        return Some(Condition::InGroup(letters::group(x)?, z));
-    }
-    if marked(part, b'=') {
-        return Some(Condition::SameIssuer(letters::name(x)?, z));
-    }
-    None
-}
-
-// The condition at a place of a line.
-pub fn condition_at(line: &[u8], at: usize) -> Option<Condition>
-    ensures { result ≡ condition_in line.now at }
-{
-    first_condition(line.get(at..)?)
-}
-
-// How many of the places 0, 1, .. hold before the first that does not, at most so many.
-fn leading<F: Fn(usize) -> bool>(limit: usize, holds: F) -> usize
-    requires { (i : ℕ) → i < limit → F.pre holds i }
-    ensures told { (test : ℕ → Bool) → ((i : ℕ) (b : Bool) → i < limit → F.post holds i b → b ≡ test i) → result ≡ leading test limit }
-    ensures few { result ≤ limit }
-{
-    // A loop: of `position` over a range it was not proved that each number of the range may be asked, and which one was found.
-    for i in 0..limit {
-        if !holds(i) {
-            return i;
+    match part {
+        [b' ', b'?', b' ', g, b' ', z, rest @ ..] => {
+            let group = letters::group(*g)?;
+            let name = letters::name(*z)?;
+            Some((Condition::InGroup(group, name), rest))
         }
+        [b' ', b'=', b' ', y, b' ', z, rest @ ..] => {
+            let first = letters::name(*y)?;
+            let second = letters::name(*z)?;
+            Some((Condition::SameIssuer(first, second), rest))
+        }
+        _ => None,
     }
-    limit
 }
 
-// What a rule's head says, `R m K v`: the owner gives one token of the kind to the receiver, a variable; and the place after it.
+// What a rule's head says, `R m K v`: the owner gives one token of the kind to the receiver.
 #[derive(Clone, Copy)]
 pub struct Head {
     pub owner: u8,
     pub kind: u8,
-    pub receiver: u8,
-    pub end: usize,
+    pub receiver: Variable,
 }
 
-fn head_of(line: &[u8]) -> Option<Head>
-    ensures { result ≡ head_in line.now }
+#[tactic(auto, using(crate::proofs::Parts::no_head, crate::proofs::Parts::no_number, letters::proofs::Numbers::inside))]
+fn head_of(line: &[u8]) -> Option<(Head, &[u8])>
+    ensures { Begins (has_head line.now) (head_said (rule_read line.now)) (head_end line.now) line.now result }
 {
-    let m = letters::number_at(line, 2)?;
-    let p = 2 + m.width;
-    let kind = letters::kind(ascii::byte(line, p + 1))?;
-    let receiver = letters::variable(ascii::byte(line, p + 3))?;
-    let spaced = (ascii::byte(line, p) == b' ') & (ascii::byte(line, p + 2) == b' ');
-    let owner = m.value;
-    let end = p + HEAD_WIDTH;
-    ((ascii::byte(line, 1) == b' ') & spaced).then_some(Head {
+    let [_, b' ', rest @ ..] = line else {
+        return None;
+    };
+    let (owner, rest) = letters::number(rest)?;
+    let [b' ', k, b' ', v, rest @ ..] = rest else {
+        return None;
+    };
+    let kind = letters::kind(*k)?;
+    let receiver = letters::variable(*v)?;
+    let head = Head {
         owner,
         kind,
         receiver,
-        end,
-    })
+    };
+    Some((head, rest))
 }
 
-// A rule line's head, how many prices follow it, where its conditions begin and how many they are.
+// The parts of one sort, N at most, that what is left of a line begins with, taken off it.
+// What is left is lent, not handed on: the kit covers no result that has a type parameter's values beside a reference.
+fn leading<T: Copy, F: Fn(&[u8]) -> Option<(T, &[u8])>, const N: usize>(
+    rest: &mut &[u8],
+    read: F,
+) -> [Option<T>; N]
+    requires { F.IsAlwaysCallable read }
+    ensures { (there : List ℕ → Bool) (said : List ℕ → T) (width : ℕ)
+        → ((part r : _) → F.post read part r → Begins (there part.now) (said part.now) width part.now r)
+        → Leads there said width N rest.old.now result rest.new.now }
+{
+    let mut found = [None; N];
+    // By number: of a write through `iter_mut` it stayed open what an array of a type parameter's values then holds; `array::from_fn` takes all N
+    // turns, also past the first that reads nothing, and what is left must be handed from one turn to the next.
+    for i in 0..N {
+        let Some((said, after)) = read(rest) else {
+            break;
+        };
+        found[i] = Some(said);
+        *rest = after;
+    }
+    found
+}
+
+// A rule line's head, its prices and its conditions: arrays, since no heap holds them, of which the first None ends each.
 #[derive(Clone, Copy)]
 pub struct RuleForm {
     pub head: Head,
-    pub prices: usize,
-    pub tail: usize,
-    pub conditions: usize,
+    pub prices: [Option<Price>; PRICE_LIMIT],
+    pub conditions: [Option<Condition>; CONDITION_LIMIT],
 }
 
 pub fn rule_form(line: &[u8]) -> Option<RuleForm>
     ensures { result ≡ rule_form_in line.now }
 {
-    let head = head_of(line)?;
-    let body = head.end;
-    let prices = leading(
-        PRICE_LIMIT,
-        |i: usize|
-            requires { body + i * price_width ≤ longest }
-            ensures { result ≡ has_price line.entry.now (body + i * price_width) }
-        { price_at(line, body + i * PRICE_WIDTH).is_some() },
-    );
-    let tail = body + prices * PRICE_WIDTH;
-    let conditions = leading(
-        CONDITION_LIMIT,
-        |i: usize|
-            requires { tail + i * condition_width ≤ longest }
-            ensures { result ≡ has_condition line.entry.now (tail + i * condition_width) }
-        { condition_at(line, tail + i * CONDITION_WIDTH).is_some() },
-    );
-    let end = tail + conditions * CONDITION_WIDTH;
-    (end == line.len()).then_some(RuleForm {
+    let (head, mut rest) = head_of(line)?;
+    let prices = leading(&mut rest, first_price);
+    let conditions = leading(&mut rest, first_condition);
+    rest.is_empty().then_some(RuleForm {
         head,
         prices,
-        tail,
         conditions,
     })
 }

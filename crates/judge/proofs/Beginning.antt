@@ -13,9 +13,8 @@ use Rattle.std.specs.Prelude.{Option, Some, None, position}
 use Rattle.std.specs.Option.{option_map, unwrap_or}
 use Rattle.std.proofs.lemmas.Option.{none-some, same_Some}
 use Rattle.std.proofs.lemmas.List.Quantifiers.{position-Some}
-use Rattle.model.specs.Transfers.{transfer_at, exchange_of, no_transfer}
+use Rattle.model.specs.Transfers.{exchange_of, no_transfer}
 use Rattle.transfers.specs.View.{transfer_count}
-use Rattle.model.proofs.Places.{up_to_length}
 use Rattle.model.proofs.Ranges.{failing_place}
 use Rattle.model.specs.Fairness.{is_proper}
 use Rattle.model.specs.Proof.{judge_chain}
@@ -24,6 +23,7 @@ use Rattle.model.proofs.Tests.{both_true}
 use Rattle.rulebook.specs.View.{card_count, book_of}
 use Rattle.rulebook.proofs.Books.{card-count}
 use Rattle.model.specs.Fairness.{is_proper_of}
+use Rattle.judge.proofs.Claiming.{read-length}
 use Rattle.judge.specs.inner.Parts.{Recorded}
 use Rattle.model.proofs.Loops.{failing_every}
 
@@ -35,10 +35,6 @@ recorded p h =
     let w = both_true (leb 12 (length p) && leb (length p) 3060) (eqb (length p % 12) 0) h in
     let v = both_true (leb 12 (length p)) (leb (length p) 3060) w.0 in
     record { some = leb-true 12 (length p) v.0; few = leb-true (length p) 3060 v.1 }
-
-pub read-length : (e : List ℕ) → length (exchange_of e) ≡ transfer_count e
-unfolding exchange_of
-read-length e = up_to_length (transfer_at e) (transfer_count e)
 
 some_mapped : (o : Option ℕ) (k : ℕ) → option_map (λ i. i + 1) o ≡ Some k → (j : ℕ) × (o ≡ Some j) × (k ≡ j + 1)
 some_mapped None k h = absurd (none-some k h)

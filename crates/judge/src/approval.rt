@@ -1,10 +1,13 @@
-// A rule's row under the cards of a record, which is an approval where questions 17 to 19 are met.
+// A rule's row under the cards of a record, which is an approval where questions 17 to 19 are met. It is without the table of cards, since
+// a note of prices makes one from the rules alone. Contracts name the bytes of its row and record: the definitions are over these.
 ghost use Rattle.std.specs.Prelude.{◌≡◌};
 ghost use Rattle.transfers.specs.View.{transfer_of};
-ghost use Rattle.judge.specs.inner.Rows.{card_named, price_asked};
+ghost use Rattle.rulebook.specs.View.{price_of};
+ghost use Rattle.judge.specs.inner.Rows.{card_named, asked_by};
 
 use crate::proof::Record;
-use rulebook::layout::Row;
+use letters::Name;
+use rulebook::layout::{Entry, Row, price_of};
 use transfers::Transfer;
 
 #[derive(Clone, Copy)]
@@ -14,21 +17,21 @@ pub(crate) struct Approval<'a> {
 }
 
 impl<'a> Approval<'a> {
-    // The card of a name: a variable's, or the owner for any other name.
-    pub(crate) fn card(self, name: u8) -> u8
+    // The card of a name.
+    pub(crate) fn card(self, name: Name) -> u8
         ensures { result ≡ card_named self.entry.row.bytes.now self.entry.rec.bytes.now name }
     {
-        if name < limits::VARIABLE_COUNT {
-            return self.rec.card(name);
+        match name {
+            Name::Variable(v) => self.rec.card(v),
+            Name::Owner => self.row.owner(),
         }
-        self.row.owner()
     }
 
-    // The transfer that price i asks.
-    pub(crate) fn price(self, i: u8) -> Transfer
-        ensures { transfer_of result ≡ price_asked self.entry.row.bytes.now self.entry.rec.bytes.now i }
+    // The transfer that a price asks.
+    pub(crate) fn asked(self, price: &Entry) -> Transfer
+        ensures { transfer_of result ≡ asked_by self.entry.row.bytes.now self.entry.rec.bytes.now (price_of price.now) }
     {
-        let price = self.row.price(i);
+        let price = price_of(price);
         Transfer {
             giver: self.rec.card(price.giver),
             kind: price.kind,

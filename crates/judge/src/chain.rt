@@ -13,12 +13,13 @@ pub(crate) fn follow(tables: &Tables, exchange: Exchange, proof: &[u8]) -> Resul
     ensures { Follows tables.now exchange.entry.bytes.now proof.now result }
 {
     let n = exchange.len();
-    let records = proof.len() / RECORD_SIZE;
+    let (records, _) = proof.as_chunks::<RECORD_SIZE>();
     let mut notes = Notes::new(exchange);
     let mut next: u8 = 1;
+    // Counted down, not indexed: a record is asked how many transfers are left after it, and the chain says which record is next.
     for left in (0..n).rev() {
-        let rec = Record::at(proof, next);
-        let asked = question(tables, &notes, rec, left, records);
+        let rec = Record::at(records, next);
+        let asked = question(tables, &notes, rec, left, records.len());
         let place = u32::from(next);
         asked.map_err(|reason| reason.at(place))?;
         notes.note(&tables.rules, rec);

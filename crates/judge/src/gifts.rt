@@ -1,30 +1,20 @@
 // Where a transfer is in an exchange.
-ghost use Rattle.std.specs.Prelude.{◌≡◌, get_or};
-ghost use Rattle.model.specs.Transfers.{eq_transfer, exchange_of, no_transfer};
+ghost use Rattle.std.specs.Prelude.{◌≡◌};
 ghost use Rattle.transfers.specs.View.{transfer_count, transfer_of};
 ghost use Rattle.judge.specs.inner.Counts.{FirstGifts, FirstAt};
 
 use crate::exchange::Exchange;
-use transfers::{Transfer, transfer_at};
-
-// Whether transfer j of the exchange is the given one.
-fn is_at(exchange: &[u8], j: usize, t: Transfer) -> bool
-    ensures { result ≡ eq_transfer (transfer_of t) (get_or (exchange_of exchange.now) j no_transfer) }
-{
-    t == transfer_at(exchange, j)
-}
+use transfers::Transfer;
 
 // The first transfer that each card gives, or the number of transfers for a card that gives none: a search from there on meets no transfer,
-// so that no card needs a case of its own. The places are counted, since they are what is noted.
+// so that no card needs a case of its own. Places by `as`: each is 32 at most, and a `try_from` would have to be unwrapped.
 fn first_gifts(exchange: Exchange) -> [u8; 256]
     ensures { FirstGifts exchange.entry.bytes.now (transfer_count exchange.entry.bytes.now) result }
 {
-    let n = exchange.len();
-    let mut firsts = [n as u8; 256];
-    // By number: place i is read, and noted.
-    for i in 0..n {
-        let t = transfer_at(exchange.bytes, i);
-        let giver = usize::from(t.giver);
+    let triples = exchange.triples();
+    let mut firsts = [triples.len() as u8; 256];
+    for (i, triple) in triples.iter().enumerate() {
+        let giver = usize::from(Transfer::from(triple).giver);
         firsts[giver] = firsts[giver].min(i as u8);
     }
     firsts
@@ -53,9 +43,10 @@ impl<'a> Gifts<'a> {
     pub(crate) fn find(&self, t: Transfer) -> Option<usize>
         ensures { FirstAt self.now.exchange.bytes.now (transfer_of t) result }
     {
-        let n = self.exchange.len();
-        let bytes = self.exchange.bytes;
         let first = usize::from(self.firsts[usize::from(t.giver)]);
-        (first..n).find(|j| is_at(bytes, *j, t))
+        let rest = &self.exchange.triples()[first..];
+        rest.iter()
+            .position(|triple| t == Transfer::from(triple))
+            .map(|i| first + i)
     }
 }

@@ -22,15 +22,12 @@ ghost use Rattle.judge.specs.Judges.{Judges};
 
 use answers::{Reason, Refusal};
 use exchange::Exchange;
+use limits::{EXCHANGE_LIMIT, PROOF_LIMIT, TRANSFER_SIZE};
 use rulebook::Tables;
 use rulebook::layout::card_count;
 
-// The numbers of document 01 in bytes.
-const TRANSFER_SIZE: usize = limits::TRANSFER_SIZE as usize;
-
-const EXCHANGE_LIMIT: usize = limits::EXCHANGE_LIMIT as usize;
-
-const PROOF_LIMIT: usize = limits::PROOF_LIMIT as usize;
+// By `as`: a constant calls no From.
+const VARIABLE_COUNT: usize = limits::VARIABLE_COUNT as usize;
 
 // The first question that the exchange and its proof do not meet, with its place, or done.
 pub fn judge(tables: &Tables, exchange: &[u8], proof: &[u8]) -> Result<(), Refusal>
@@ -40,6 +37,7 @@ pub fn judge(tables: &Tables, exchange: &[u8], proof: &[u8]) -> Result<(), Refus
         return Err(Reason::ExchangeSize.into());
     }
     if let Some(bad) = transfers::first_improper(card_count(&tables.cards), exchange) {
+        // By `as`: a place is 32 at most, and a `try_from` would have to be unwrapped.
         return Err(Reason::BadTransfer.at(bad as u32));
     }
     if !sizes::is_sized(proof, proof::RECORD_SIZE, PROOF_LIMIT) {

@@ -1,9 +1,10 @@
 // What is noted along a chain of records: which transfers are claimed and what is asked as a price; and question 21.
-ghost use Rattle.std.specs.Prelude.{◌≡◌, [], ◌∷◌, ◌||◌, ◌≤◌, leb, take};
+ghost use Rattle.std.specs.Prelude.{◌≡◌, [], ◌∷◌, ◌||◌, ◌≤◌, leb, option_map};
 ghost use Rattle.model.specs.Transfers.{count};
-ghost use Rattle.transfers.specs.View.{transfer_count, transfer_of, transfers_of};
+ghost use Rattle.model.specs.Limits.{price_limit};
+ghost use Rattle.transfers.specs.View.{list_size, transfer_of, transfers_of};
 ghost use Rattle.judge.specs.inner.Rows.{prices_asked};
-ghost use Rattle.judge.specs.inner.Records.{is_claimable};
+ghost use Rattle.judge.specs.inner.Records.{claimable};
 ghost use Rattle.judge.specs.inner.Counts.{Room, all_met, asked_once, is_paid};
 ghost use Rattle.judge.specs.inner.Notes.{Blank, Asked, Notable, Noted};
 
@@ -13,22 +14,23 @@ use crate::gifts::Gifts;
 use crate::proof::Record;
 use rulebook::layout;
 use rulebook::layout::RuleTable;
-use transfers::{Transfer, count_in, read_list};
+use transfers::{LIST_SIZE, Transfer, read_list, transfer_at};
 
-// Whether a transfer is among the first n of the list as often as it is asked. Each of them is so that is asked at most once.
-fn is_met(list: &[Transfer; 32], n: usize, t: Transfer, asked: u8) -> bool
-    ensures { result ≡ (leb asked 1 || leb asked (count (transfer_of t) (transfers_of (take n list.now)))) }
+// Whether a transfer is in the list as often as it is asked. Each of them is so that is asked at most once.
+fn is_met(list: &[Transfer], t: Transfer, asked: u8) -> bool
+    ensures { result ≡ (leb asked 1 || leb asked (count (transfer_of t) (transfers_of list.now))) }
 {
-    asked <= 1 || usize::from(asked) <= count_in(list, n, t)
+    asked <= 1 || usize::from(asked) <= transfers::count(list, t)
 }
 
 #[derive(Drop)]
 pub(crate) struct Notes<'a> {
     gifts: Gifts<'a>,
-    pub(crate) claimed: [bool; 32],
+    // Marks and counts are two arrays, not one of pairs: question 21 passes over the counts alone, as a slice of numbers.
+    pub(crate) claimed: [bool; LIST_SIZE],
     // How often each transfer is asked, counted at the first of equal ones.
-    asked: [u8; 32],
-    // Whether a price is asked that is no transfer. A flag, since the counts in an Option would be tested and taken out at each price.
+    asked: [u8; LIST_SIZE],
+    // Whether a price is asked that is no transfer. A flag: `asked` as an Option, None then, would need a match before each count.
     missing: bool,
 }
 
@@ -38,24 +40,22 @@ impl<'a> Notes<'a> {
     {
         Notes {
             gifts: Gifts::of(exchange),
-            claimed: [false; 32],
-            asked: [0; 32],
+            claimed: [false; LIST_SIZE],
+            asked: [0; LIST_SIZE],
             missing: false,
         }
     }
 
-    pub(crate) fn exchange(&self) -> Exchange<'a>
-        ensures { result.bytes.now ≡ self.now.gifts.exchange.bytes.now }
+    // Question 15: the transfer of a number from 1, if it is one of the exchange and not claimed yet.
+    pub(crate) fn claimable(&self, claim: u8) -> Option<Transfer>
+        ensures { option_map transfer_of result ≡ claimable self.now.claimed self.now.gifts.exchange.bytes.now claim }
     {
-        self.gifts.exchange
-    }
-
-    // Question 15: the transfer is one of the exchange, and not claimed yet.
-    pub(crate) fn is_claimable(&self, claim: u8) -> bool
-        ensures { result ≡ is_claimable self.now.claimed (transfer_count self.now.gifts.exchange.bytes.now) claim }
-    {
-        let k = usize::from(claim);
-        1 <= k && k <= self.gifts.exchange.len() && !self.claimed[k - 1]
+        let k = usize::from(claim).checked_sub(1)?;
+        let claimed = transfer_at(self.gifts.exchange.bytes, k)?;
+        if self.claimed[k] {
+            return None;
+        }
+        Some(claimed)
     }
 
     // A price: one more at the first transfer that it is.
@@ -70,13 +70,11 @@ impl<'a> Notes<'a> {
     }
 
     fn ask_prices(&mut self, approval: Approval)
-        requires { Room self.old.gifts.exchange.bytes.now 4 self.old.asked }
+        requires { Room self.old.gifts.exchange.bytes.now price_limit self.old.asked }
         ensures { Asked (prices_asked approval.entry.row.bytes.now approval.entry.rec.bytes.now) self.old self.new × (self.new.claimed ≡ self.old.claimed) }
     {
-        let n = approval.row.price_count();
-        // By number: price i is the row's, which is no list of prices.
-        for i in 0..n {
-            self.ask(approval.price(i));
+        for price in approval.row.prices() {
+            self.ask(approval.asked(price));
         }
     }
 
@@ -92,7 +90,7 @@ impl<'a> Notes<'a> {
 
     // Whether each of the first n transfers is asked at most once.
     fn asked_once(&self, n: usize) -> bool
-        requires { n ≤ 32 }
+        requires { n ≤ list_size }
         ensures { result ≡ asked_once self.now.asked n }
     {
         self.asked[..n].iter().all(|asked| *asked <= 1)
@@ -104,7 +102,9 @@ impl<'a> Notes<'a> {
     {
         let n = self.gifts.exchange.len();
         let list = read_list(self.gifts.exchange.bytes);
-        (0..n).all(|j| is_met(&list, n, list[j], self.asked[j]))
+        let transfers = &list[..n];
+        let mut counts = transfers.iter().zip(&self.asked);
+        counts.all(|(t, asked)| is_met(transfers, *t, *asked))
     }
 
     // Question 21, the last. A list is read only where a transfer is asked twice.

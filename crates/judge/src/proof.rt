@@ -1,8 +1,9 @@
 // A proof's records of 12 bytes: where their bytes are, and what these say (model's specs/Proof.antt).
-ghost use Rattle.std.specs.Prelude.{◌≡◌, ◌*◌, ◌<◌, ◌≤◌, length, get_or};
-ghost use Rattle.model.specs.Limits.{record_size, variable_count};
+ghost use Rattle.std.specs.Prelude.{◌≡◌, ◌-◌, ◌≤◌, length, get_or, [], drop};
+ghost use Rattle.model.specs.Limits.{variable_count};
 ghost use Rattle.model.specs.Proof as model;
-ghost use Rattle.model.specs.Proof.{record_at};
+
+use letters::Variable;
 
 pub(crate) const RECORD_SIZE: usize = 12;
 
@@ -19,19 +20,17 @@ const CARDS: usize = 4;
 // A record of a proof. Each byte has a method of its name, though they differ in a place alone: no other file knows one.
 #[derive(Clone, Copy)]
 pub(crate) struct Record<'a> {
-    pub(crate) bytes: &'a [u8],
-    ghost whole: { length bytes.now ≡ record_size },
+    pub(crate) bytes: &'a [u8; RECORD_SIZE],
 }
 
 impl<'a> Record<'a> {
     // The record of a number, from 1.
-    pub(crate) fn at(proof: &'a [u8], number: u8) -> Record<'a>
-        requires { (1 ≤ number) × (number * record_size ≤ length proof.now) }
-        ensures { result.bytes.now ≡ record_at proof.now number }
+    pub(crate) fn at(records: &'a [[u8; RECORD_SIZE]], number: u8) -> Record<'a>
+        requires { (1 ≤ number) × (number ≤ length records.now) }
+        ensures { result.bytes.now ≡ get_or records.now (number - 1) [] }
     {
-        let end = usize::from(number) * RECORD_SIZE;
         Record {
-            bytes: &proof[end - RECORD_SIZE..end],
+            bytes: &records[usize::from(number) - 1],
         }
     }
 
@@ -60,11 +59,17 @@ impl<'a> Record<'a> {
         self.bytes[ZERO]
     }
 
-    // The card of a variable, from 0.
-    pub(crate) fn card(self, v: u8) -> u8
-        requires { v < variable_count }
-        ensures { result ≡ model.cards self.entry.bytes.now v }
+    pub(crate) fn card(self, v: Variable) -> u8
+        ensures { result ≡ model.cards self.entry.bytes.now v.number }
     {
-        self.bytes[CARDS + usize::from(v)]
+        self.bytes[CARDS + usize::from(v.number)]
+    }
+
+    // The cards of the variables, a to h.
+    pub(crate) fn cards(self) -> &'a [u8]
+        ensures { (result.now ≡ drop 4 self.entry.bytes.now) × (length result.now ≡ variable_count) }
+    {
+        let bytes = self.bytes;
+        &bytes[CARDS..]
     }
 }

@@ -4,16 +4,18 @@
 
 #![tactic(auto)]
 
-ghost use Rattle.std.specs.Prelude.{◌≡◌, ◌≤◌, if◌then◌else◌, IfSome};
-ghost use Rattle.letters.specs.Letters.{kind_in, variable_in, name_in, group_in, number_in};
+mod names;
+
+ghost use Rattle.std.specs.Prelude.{◌≡◌};
+ghost use Rattle.letters.specs.Letters.{kind_in, variable_in, name_in, group_in, BeginsWithNumber};
+
+pub use names::{Name, Variable};
 
 // Kinds are numbered from 1.
 const BEFORE_A: u8 = b'A' - 1;
 
-// Variables are numbered from 0, and the name `*` is numbered after them: a name is one byte of a rule's row.
-const STAR: u8 = limits::VARIABLE_COUNT;
-
 // 1 to 16.
+#[tactic(auto, unfolding(model::specs::Reader::kind_of))]
 pub fn kind(x: u8) -> Option<u8>
     ensures { result ≡ kind_in x }
 {
@@ -23,27 +25,30 @@ pub fn kind(x: u8) -> Option<u8>
     }
 }
 
-// 0 to 7.
-pub fn variable(x: u8) -> Option<u8>
+// a to h.
+#[tactic(auto, unfolding(model::specs::Reader::variable_of))]
+pub fn variable(x: u8) -> Option<Variable>
     ensures { result ≡ variable_in x }
 {
     match x {
-        b'a'..=b'h' => Some(x - b'a'),
+        b'a'..=b'h' => Some(Variable { number: x - b'a' }),
         _ => None,
     }
 }
 
-// A variable's number, or STAR.
-pub fn name(x: u8) -> Option<u8>
+// A variable, or `*`.
+#[tactic(auto, using(crate::proofs::NameLaws::name_is, crate::proofs::NameLaws::no_name), unfolding(model::specs::Reader::name_of, model::specs::Reader::named))]
+pub fn name(x: u8) -> Option<Name>
     ensures { result ≡ name_in x }
 {
     match x {
-        b'*' => Some(STAR),
-        _ => variable(x),
+        b'*' => Some(Name::Owner),
+        _ => Some(Name::Variable(variable(x)?)),
     }
 }
 
 // 1 to 8.
+#[tactic(auto, unfolding(model::specs::Reader::group_of))]
 pub fn group(x: u8) -> Option<u8>
     ensures { result ≡ group_in x }
 {
@@ -53,31 +58,16 @@ pub fn group(x: u8) -> Option<u8>
     }
 }
 
-// The number m of a card, and how many bytes it has: 1 or 2.
-#[derive(Clone, Copy)]
-pub struct Number {
-    pub value: u8,
-    pub width: usize,
-}
-
-// The number m at a place of a line: 1 to 99, without a leading zero.
-pub fn number_at(line: &[u8], at: u8) -> Option<Number>
-    ensures read { result ≡ number_in line.now at }
-    ensures short { IfSome result (λ m. m.width ≤ 2) }
+// The number m that a part of a line begins with, 1 to 99 without a leading zero, and what follows it.
+pub fn number(part: &[u8]) -> Option<(u8, &[u8])>
+    ensures { BeginsWithNumber part.now result }
 {
-    let at = usize::from(at);
-    let first = ascii::digit(ascii::byte(line, at))?;
-    if first == 0 {
+    let [first @ b'1'..=b'9', rest @ ..] = part else {
         return None;
+    };
+    let tens = first - b'0';
+    match rest {
+        [second @ b'0'..=b'9', rest @ ..] => Some((tens * 10 + (second - b'0'), rest)),
+        _ => Some((tens, rest)),
     }
-    Some(match ascii::digit(ascii::byte(line, at + 1)) {
-        Some(second) => Number {
-            value: first * 10 + second,
-            width: 2,
-        },
-        None => Number {
-            value: first,
-            width: 1,
-        },
-    })
 }

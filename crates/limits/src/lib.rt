@@ -1,5 +1,5 @@
-// The numbers of document 01 that size the tables or that more than one crate needs, each at its smallest width, and a number held to
-// such a bound.
+// The numbers of document 01 that size the tables or that more than one crate needs, and a number held to such a bound. Numbers of bytes
+// are sizes; the others are of their smallest width, as cards, kinds and rules are bytes in tables and exchanges.
 
 #![tactic(auto)]
 
@@ -7,7 +7,7 @@ ghost use Rattle.std.specs.Prelude.{◌≡◌};
 ghost use Rattle.model.specs.Lists.{within};
 
 // The most bytes of a rule text.
-pub const TEXT_LIMIT: u16 = 16_384;
+pub const TEXT_LIMIT: usize = 16_384;
 
 pub const CARD_LIMIT: u8 = 32;
 
@@ -30,13 +30,13 @@ pub const MOST_DIGITS: u8 = 19;
 pub const SUM_LIMIT: u32 = 1_000_000_000;
 
 // The bytes of a transfer in an exchange, and the most that an exchange and a proof may have.
-pub const TRANSFER_SIZE: u8 = 3;
+pub const TRANSFER_SIZE: usize = 3;
 
-pub const EXCHANGE_LIMIT: u8 = 96;
+pub const EXCHANGE_LIMIT: usize = 96;
 
-pub const PROOF_LIMIT: u16 = 3060;
+pub const PROOF_LIMIT: usize = 3060;
 
-// Whether n is one of 1 to m.
+// Whether n is one of 1 to m: of bytes; of another width a range's `contains` stands where it is asked.
 pub fn is_within(n: u8, m: u8) -> bool
     ensures { result ≡ within n m }
 {

@@ -17,6 +17,7 @@ pub mod RuleVariables
 pub mod Counting
 pub mod Loops
 pub mod Ranges
+pub mod Chunks
 pub mod Permutations
 pub mod Orders
 pub mod Backing

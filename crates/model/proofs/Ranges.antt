@@ -4,18 +4,10 @@ use mathlib.Core.Bool.{Bool, true, false, not, cond, ◌&&◌}
 use mathlib.Core.List.{List, [], ◌∷◌, ◌++◌, map}
 use Prim.Native.Nat.{ℕ, zero, suc, ◌+◌}
 use native.Mathlib.Omega.{arith}
-use denote.Param.Members.{Mut}
-use Rattle.std.specs.Fn.{Called}
-use Rattle.std.specs.Iterator.{ChecksAll, FindsPosition}
-use Rattle.std.specs.List.{range_with_len, list_all, position, position_from, prefix_len}
+use Rattle.std.specs.List.{range_with_len, list_all, position, position_from}
 use Rattle.std.specs.Option.{option_map, unwrap_or}
-use Rattle.std.specs.Prelude.{Option, Some}
-use Rattle.std.specs.declared.ops.Range.{Range}
-use Rattle.std.proofs.iter.Yields.{nat_range_steps}
-use Rattle.std.proofs.lemmas.List.{length-map}
-use Rattle.std.proofs.lemmas.Iterator.{YieldsList-from_range}
+use Rattle.std.specs.Prelude.{Some}
 use Rattle.std.proofs.lemmas.Iterator.Adapters.{position_from-zero}
-use Rattle.std.proofs.lemmas.Iterator.Search.{all_from_yields_List, position_from_yields_List}
 use Rattle.model.specs.Lists.{every, up_to, first_failing}
 
 -- ---- the list of a range
@@ -38,31 +30,6 @@ module _ {A : Type 0} (f : ℕ → A) where
   range≡ (suc n) =
       let z : 0 + n ≡ n = omega arith in
       ap (map f) (range_last 0 n) ∙ rw z (map_last (range_with_len 0 n) n ∙ ap (λ (r : List A). r ++ (f n ∷ [])) (range≡ n))
-
-  all_mapped : (p : A → Bool) (xs : List ℕ) → list_all (λ i. p (f i)) xs ≡ every p (map f xs)
-  all_mapped p [] = refl
-  all_mapped p (x ∷ xs) = ap (λ (b : Bool). p (f x) && b) (all_mapped p xs)
-
-  prefix_mapped : (p : A → Bool) (xs : List ℕ) → prefix_len (λ i. p (f i)) xs ≡ prefix_len p (map f xs)
-  prefix_mapped p [] = refl
-  prefix_mapped p (x ∷ xs) = ap (λ (k : ℕ). cond (p (f x)) (1 + k) 0) (prefix_mapped p xs)
-
-  position_mapped : (p : A → Bool) (xs : List ℕ) → position (λ i. p (f i)) xs ≡ position p (map f xs)
-  position_mapped p xs = rw (prefix_mapped (λ a. not (p a)) xs, length-map xs f)
-
-  -- ---- what a chain over it answers
-
-  module _ {F : Type 0} {g : Mut F (ℕ × Unit {0}) Bool} {s : Range ℕ} (p : A → Bool) (n : ℕ) (u : Range ℕ) (c : F) (begun : s ≡ record { start = 0; end = n })
-      (tests : (x : ℕ) (b : Bool) (q : F) → Called g c (x, tt) b q → (q ≡ c) × (b ≡ p (f x))) where
-    pub all_places : (r : Bool) → ChecksAll nat_range_steps g s c r u → r ≡ every p (up_to f n)
-    all_places r ran =
-        all_from_yields_List (λ i. p (f i)) u c r ran (YieldsList-from_range 0 n n begun (omega arith)) tests
-        ∙ all_mapped p (range_with_len 0 n) ∙ ap (every p) (range≡ n)
-
-    pub first_place : (r : Option ℕ) → FindsPosition nat_range_steps g s c r u → r ≡ position p (up_to f n)
-    first_place r ran =
-        position_from_yields_List (λ i. p (f i)) u c r ran (YieldsList-from_range 0 n n begun (omega arith)) tests
-        ∙ position_mapped p (range_with_len 0 n) ∙ ap (position p) (range≡ n)
 
 -- ---- the first that fails, by its place from 0
 

@@ -2,10 +2,11 @@
 
 #![tactic(auto)]
 
-// One byte more than the longest line.
+// The longest line and the byte that shows that a line is longer. By `as`: a constant calls no From.
 const LINE_ROOM: usize = commands::RINGSWAP_LONGEST as usize + 1;
 
 fn main(rt: HostRuntime) {
+    // `thawcroft` has these lines too: one function, generic in the buffer's size, would be given dialect, size and proof by each program.
     let dialect = commands::ringswap();
     let mut buffer = [0; LINE_ROOM];
     prove!((dialect.longest as usize) < buffer.len());

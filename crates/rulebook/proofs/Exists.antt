@@ -10,7 +10,7 @@ use lib.ListN.{length, get_or, set}
 use borrow.Author.Tests.{eqb-true, eqb-false}
 use Rattle.model.specs.Limits.{card_limit, rule_limit, most_digits, text_limit}
 use Rattle.model.specs.Questions.{Answer, ok, refused, Question, first_unmet, and_then}
-use Rattle.model.specs.Reader.{group_of, number_at, card_read, cut}
+use Rattle.model.specs.Reader.{group_of, number_at, card_read, rule_read, cut}
 use Rattle.model.specs.Book.{Book, no_book}
 use Rattle.model.specs.Opening.{card_digits, open_lines, opening}
 use Rattle.model.proofs.Places.{up_to_length}
@@ -30,7 +30,8 @@ use Rattle.rulebook.specs.inner.Writes.{CardAdded, MemberAdded, RuleAdded}
 use Rattle.rulebook.specs.inner.Rows.{row_of}
 use Rattle.rulebook.specs.inner.Lines.{card_questions, group_questions, rule_questions, AddedUnless, LineTaken}
 use Rattle.rulebook.proofs.Written.{row_written, byte_written, card-added, member_added, rule-added}
-use Rattle.rulebook.proofs.Rows.{row-length}
+use Rattle.forms.specs.Forms.{form_said}
+use Rattle.rulebook.proofs.Bytes.{row-length}
 use Rattle.rulebook.proofs.Grown.{no_tables_lem}
 use Rattle.rulebook.proofs.Forms.{how_many, refuses, takes}
 use Rattle.rulebook.proofs.Lines.{card-room, group-room, rule-room, card-line, group-line, rule-line, no_line}
@@ -120,9 +121,9 @@ module _ (w : List ℕ) (t : Tables) (sized : Sized t) where
 
   rule : get_or w 0 0 ≡ code "R" → Line
   rule first =
-      let asked = asks (rule_questions (card_count t.cards) (rule_count t.rules) w) (RuleAdded (row_of w) t.rules) t.rules
+      let asked = asks (rule_questions (card_count t.cards) (rule_count t.rules) w) (RuleAdded (row_of (form_said (rule_read w))) t.rules) t.rules
       ((reason.NoForm, refl), ((reason.CardNotAbove, refl), ((reason.TooManyRules, refl), tt))) (λ z.
-      a_rule (row_of w) t.rules sized.rules-size (rule-room (card_count t.cards) t.rules w z).1 (row-length w)) in
+      a_rule (row_of (form_said (rule_read w))) t.rules sized.rules-size (rule-room (card_count t.cards) t.rules w z).1 (row-length (rule_read w))) in
       record {
         result = asked.0;
         next = record { cards = t.cards; rules = asked.1 };

@@ -11,7 +11,8 @@ use Rattle.model.specs.Limits.{least_digits, most_digits}
 use Rattle.model.specs.Lists.{any, eq_list}
 use Rattle.model.specs.Questions.{Question, first_unmet}
 use Rattle.model.specs.CardNumbers.{luhn}
-use Rattle.model.specs.Reader.{group_of, digit_of, width_of, number_of, number_width, number_at, space_at, is_card_line, card_read, is_group_line, has_head, owner_end, rule_end, is_rule_line, kind_of, variable_of}
+use Rattle.model.specs.Reader.{group_of, digit_of, width_of, number_of, number_width, number_at, space_at, is_card_line}
+use Rattle.model.specs.Reader.{card_read, is_group_line, has_head, owner_end, rule_end, is_rule_line, rule_read, kind_of, variable_of}
 use Rattle.model.specs.Opening.{card_digits, is_card_number}
 use Rattle.model.proofs.Tests.{both_true}
 use Rattle.model.proofs.Places.{up_to_length}
@@ -20,6 +21,7 @@ use Rattle.answers.specs.declared.Reason.{Reason}
 use Rattle.answers.specs.declared.Reason.TheVariants.{TooManyCards, BadCardNumber, CardRepeated, TooManyRules}
 use Rattle.std.specs.Prelude.{Ok, Err}
 use Rattle.rulebook.specs.View.{card_count, rule_count, card_view, cards_of}
+use Rattle.forms.specs.Forms.{form_said}
 use Rattle.rulebook.specs.inner.Rows.{row_of}
 use Rattle.rulebook.specs.inner.Lines.{AddedUnless, CardTaken, GroupTaken, RuleTaken}
 use Rattle.rulebook.specs.inner.Writes.{CardAdded, MemberAdded, RuleAdded}
@@ -75,8 +77,8 @@ pub headed : (w : List ℕ) → is_rule_line w ≡ true → has_head w ≡ true
 unfolding is_rule_line
 headed w h = (both_true (has_head w) (eqb (rule_end w) (length w)) h).0
 
-owner-low : (w : List ℕ) → is_rule_line w ≡ true → 1 ≤ number_at w 2
-unfolding has_head
+owner-low : (w : List ℕ) → is_rule_line w ≡ true → 1 ≤ (rule_read w).owner
+unfolding has_head rule_read
 owner-low w h =
     let v = ltb (variable_of (get_or w (owner_end w + 3) 0)) 8 in
     let k = leb 1 (kind_of (get_or w (owner_end w + 1) 0)) in
@@ -121,10 +123,10 @@ module _ {w cards : List ℕ} (formed : is_group_line w ≡ true) where
 
 -- ---- a rule line
 
-module _ {w : List ℕ} {cards : ℕ} {rules : List ℕ} (formed : is_rule_line w ≡ true) (above : number_at w 2 ≤ cards) where
+module _ {w : List ℕ} {cards : ℕ} {rules : List ℕ} (formed : is_rule_line w ≡ true) (above : (rule_read w).owner ≤ cards) where
   pub rules_full : 56 ≤ rule_count rules → RuleTaken w cards rules (Err TooManyRules) rules
   rules_full l =
-      record { asked = refuses (rw (formed, le-leb 1 (number_at w 2) (owner-low w formed), le-leb (number_at w 2) cards above, le-ltb (rule_count rules) 56 l)) }
+      record { asked = refuses (rw (formed, le-leb 1 (rule_read w).owner (owner-low w formed), le-leb (rule_read w).owner cards above, le-ltb (rule_count rules) 56 l)) }
 
-  pub rule-taken : rule_count rules < 56 → {rules' : List ℕ} → RuleAdded (row_of w) rules rules' → RuleTaken w cards rules (Ok tt) rules'
-  rule-taken l a = record { asked = takes (rw (formed, le-leb 1 (number_at w 2) (owner-low w formed), le-leb (number_at w 2) cards above, lt-ltb (rule_count rules) 56 l)) a }
+  pub rule-taken : rule_count rules < 56 → {rules' : List ℕ} → RuleAdded (row_of (form_said (rule_read w))) rules rules' → RuleTaken w cards rules (Ok tt) rules'
+  rule-taken l a = record { asked = takes (rw (formed, le-leb 1 (rule_read w).owner (owner-low w formed), le-leb (rule_read w).owner cards above, lt-ltb (rule_count rules) 56 l)) a }

@@ -3,17 +3,19 @@
 use mathlib.Core.Path.{◌≡◌, refl, sym, ◌∙◌, ap}
 use mathlib.Core.Bool.{true, false}
 use mathlib.Core.List.{List, [], ◌∷◌}
-use Prim.Native.Nat.{ℕ, suc, ◌+◌, ◌<◌}
+use Prim.Native.Nat.{ℕ, suc, ◌+◌, ◌<◌, min}
 use native.Mathlib.Omega.{arith}
 use lib.Dec.{eqb}
 use lib.ListN.{length, get_or}
 use lib.Seq.{ext_get_or}
 use borrow.Author.Tests.{eq-eqb, eqb-true}
+use Rattle.model.specs.Limits.{card_limit, most_digits}
 use Rattle.model.specs.Lists.{any, eq_list, up_to}
 use Rattle.model.proofs.Tests.{both_true, never_true}
 use Rattle.model.proofs.Loops.{any-more, any-stop}
 use Rattle.model.proofs.Places.{up_to_length, up_to_at}
-use Rattle.rulebook.specs.View.{card_length, digit_at, card_view}
+use Rattle.rulebook.specs.View.{card_count, card_length, digit_at, card_view}
+use Rattle.rulebook.proofs.Books.{count_small}
 
 -- ---- equal lists
 
@@ -35,6 +37,21 @@ eq_list_same : (xs ys : List ℕ) → length xs ≡ length ys → ((k : ℕ) →
 eq_list_same xs ys l f = rw (ext_get_or 0 xs ys l f) (eq_list_refl ys)
 
 -- ---- card m = i + 1
+
+-- its digits as they are lent
+pub record Lent (cards : List ℕ) (i : ℕ) (digits : List ℕ) : Type 0 where
+  pub card : i < card_count cards
+  pub there : digits ≡ up_to (digit_at cards (min (i + 1) card_limit)) most_digits
+
+module _ {cards : List ℕ} {i : ℕ} {digits : List ℕ} (lent : Lent cards i digits) where
+  pub lent-size : length digits ≡ most_digits
+  lent-size = ap length lent.there ∙ up_to_length (digit_at cards (min (i + 1) card_limit)) most_digits
+
+  pub lent_digit : (d : ℕ) → d < length digits → get_or digits d 0 ≡ digit_at cards (suc i) d
+  lent_digit d l =
+      let m : min (i + 1) card_limit ≡ suc i = omega (arith, lent.card, count_small cards) in
+      ap (λ (s : List ℕ). get_or s d 0) lent.there ∙ up_to_at (digit_at cards (min (i + 1) card_limit)) most_digits d 0 (omega (arith, lent-size))
+      ∙ ap (λ (m : ℕ). digit_at cards m d) m
 
 -- the first i cards are unlike the digits ds
 abbrev pub Unlike : List ℕ → List ℕ → ℕ → Type 0

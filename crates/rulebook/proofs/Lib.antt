@@ -1,6 +1,8 @@
 pub mod Books
 pub mod Written
 pub mod Parts
+pub mod Mapped
+pub mod Bytes
 pub mod Known
 pub mod Rows
 pub mod Grown

@@ -11,7 +11,8 @@ use lib.ListN.{length, get_or}
 use borrow.Author.Tests.{eq-eqb, ne_eqb, ltb-true, leb-true}
 use Rattle.model.specs.Questions.{ok, refused, Question, ◌unless◌, in_order, first_unmet}
 use Rattle.model.specs.Limits.{card_limit, rule_limit, least_digits, most_digits}
-use Rattle.model.specs.Grammar.{Rule, Line, card, group, rule}
+use Rattle.model.specs.Grammar.{Rule, Line, card, group, rule, well_formed}
+use Rattle.model.proofs.Lines.{lines_read}
 use Rattle.model.specs.Reader.{group_of, number_at, is_card_line, card_read, is_group_line, is_rule_line, rule_read, some_if, read_line}
 use Rattle.model.specs.Book.{Book}
 use Rattle.model.specs.Opening.{card_digits, is_card_number, line_questions, with_line, add_line, open_line}
@@ -26,9 +27,10 @@ use Rattle.rulebook.specs.declared.Tables.{Tables}
 use Rattle.rulebook.specs.View.{card_count, rule_count, cards_of, tables_book}
 use Rattle.rulebook.specs.inner.Lines.{card_questions, group_questions, rule_questions, AddedUnless, CardTaken, GroupTaken, RuleTaken, LineTaken}
 use Rattle.rulebook.proofs.Books.{cards_are, card-count, rule-count, count_small}
-use Rattle.rulebook.proofs.Rows.{row-says, row-length}
+use Rattle.rulebook.proofs.Rows.{row-says}
+use Rattle.rulebook.proofs.Bytes.{row-length}
 use Rattle.rulebook.proofs.Grown.{card_grown, member_grown, rule_grown}
-use Rattle.rulebook.proofs.Forms.{number_size, Grouped, grouped, headed}
+use Rattle.rulebook.proofs.Forms.{number_size, Grouped, grouped}
 
 -- ---- the line's answer, by the first question that is not met
 
@@ -87,9 +89,8 @@ rule_reads w e =
       eq-eqb (get_or w 0 0) (code "R") e,
     )
 
-owner-is : (w : List ℕ) → (rule_read w).owner ≡ number_at w 2
-unfolding rule_read
-owner-is w = refl
+rule_formed : (w : List ℕ) → get_or w 0 0 ≡ code "R" → is_rule_line w ≡ true → T (well_formed (rule (rule_read w)))
+rule_formed w first formed = ((lines_read w (rule (rule_read w))).0 (rw (rule_reads w first, formed) refl)).1
 
 -- what questions 3 and 4 say of a card that is taken
 pub card-room : (cards : List (List ℕ)) (w : List ℕ) → first_unmet (card_questions cards w) ≡ 0
@@ -116,7 +117,7 @@ group-room cards w e =
 pub rule-room : (cards : ℕ) (rules w : List ℕ) → first_unmet (rule_questions cards (rule_count rules) w) ≡ 0 → (is_rule_line w ≡ true) × (rule_count rules < rule_limit)
 rule-room cards rules w e =
     let a = met 2 (is_rule_line w) _ (omega arith) e in
-    let b = met 6 (leb 1 (number_at w 2) && leb (number_at w 2) cards) _ (omega arith) a.1 in
+    let b = met 6 (leb 1 (rule_read w).owner && leb (rule_read w).owner cards) _ (omega arith) a.1 in
     (a.0, ltb-true (rule_count rules) rule_limit (met 7 (ltb (rule_count rules) rule_limit) 0 (omega arith) b.1).0)
 
 -- ---- a line's answer, by its first letter
@@ -138,11 +139,11 @@ module _ {w : List ℕ} {t : Tables} where
       → LineTaken w t r (record { cards = t.cards; rules = rules' })
   rule-line first {r} h =
       line-answer w t _ (rule (rule_read w)) (is_rule_line w) (rule_reads w first) r
-      (rw (card-count t.cards t.rules, rule-count t.cards t.rules, owner-is w) h.asked.first)
+      (rw (card-count t.cards t.rules, rule-count t.cards t.rules) h.asked.first)
       (taken-as h.asked
       (λ z a.
       let formed = (rule-room (card_count t.cards) t.rules w z).0 in
-      rule_grown a (row-length w) t.cards ∙ ap (λ (x : Rule). with_line (tables_book t) (rule x)) (row-says w (headed w formed))))
+      rule_grown a (row-length (rule_read w)) t.cards ∙ ap (λ (x : Rule). with_line (tables_book t) (rule x)) (row-says (rule_read w) (rule_formed w first formed))))
 
   -- any other first letter
   pub no_line : (get_or w 0 0 ≡ code "C" → ⊥) → (get_or w 0 0 ≡ code "G" → ⊥) → (get_or w 0 0 ≡ code "R" → ⊥) → LineTaken w t (Err NoForm) t

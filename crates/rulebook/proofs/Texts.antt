@@ -1,21 +1,20 @@
 -- A text from a place on, line by line.
-use mathlib.Core.Path.{◌≡◌, refl, sym, ◌∙◌, ap}
-use mathlib.Core.Bool.{Bool, true, false}
-use mathlib.Core.List.{List, [], ◌∷◌}
+use mathlib.Core.Path.{◌≡◌, sym, ◌∙◌, ap}
+use mathlib.Core.List.{List}
 use Prim.Native.Char.{code}
-use Prim.Native.Nat.{ℕ, suc, ◌+◌, ◌-◌, ◌≤◌, ◌<◌}
+use Prim.Native.Nat.{ℕ, ◌+◌, ◌≤◌, ◌<◌}
 use native.Mathlib.Omega.{arith}
-use native.Mathlib.Numerals.{add-one}
-use lib.Dec.{eqb}
-use lib.ListN.{length, take, drop}
+use lib.Dec.{T}
+use lib.ListN.{length, length-append}
 use borrow.Author.Tests.{le-leb, lt-leb, ne_eqb}
-use Rattle.std.proofs.lemmas.List.{take_rest}
-use Rattle.model.specs.Lists.{until}
+use Rattle.std.proofs.lemmas.List.{nil_from_length}
 use Rattle.model.specs.Questions.{Answer, ok, refused, and_then}
-use Rattle.model.specs.Reader.{CutText, cut}
+use Rattle.model.specs.Reader.{has_no_lf, cut}
 use Rattle.model.specs.Book.{Book}
 use Rattle.model.specs.Opening as model
 use Rattle.model.specs.Opening.{open_line, open_lines, opening}
+use Rattle.model.proofs.Cuts.{cut_end, cut-more}
+use Rattle.ascii.specs.Cut.{CutAt}
 use Rattle.std.specs.Prelude.{Result, Ok, Err}
 use Rattle.answers.specs.View.{answer_of, number_of, placed}
 use Rattle.answers.specs.declared.Reason.{Reason}
@@ -26,29 +25,6 @@ use Rattle.rulebook.specs.inner.Lines.{LineTaken}
 use Rattle.rulebook.specs.declared.Tables.{Tables}
 use Rattle.rulebook.proofs.Grown.{no_tables_lem}
 
--- ---- the text cut at its first LF
-
-abbrev first_cut : List ℕ → CutText
-first_cut xs = let n = until (code "\n") xs in record { lines = take n xs ∷ (cut (drop (suc n) xs)).lines; last = (cut (drop (suc n) xs)).last }
-
-cut_line : (xs : List ℕ) → until (code "\n") xs < length xs → cut xs ≡ first_cut xs
-unfolding until cut
-cut_line [] l = absurd (omega arith)
-cut_line (x ∷ xs) l = go (eqb x (code "\n")) refl (cut_line xs)
-  where
-    go : (b : Bool) → eqb x (code "\n") ≡ b → (until (code "\n") xs < length xs → cut xs ≡ first_cut xs) → cut (x ∷ xs) ≡ first_cut (x ∷ xs)
-    go true e h = rw e
-    go false e h = let m : until (code "\n") xs < length xs = (let k = rw e at l in omega arith) in rw (e, h m)
-
-cut-rest : (xs : List ℕ) → until (code "\n") xs ≡ length xs → cut xs ≡ record { lines = []; last = xs }
-unfolding until cut
-cut-rest [] l = refl
-cut-rest (x ∷ xs) l = go (eqb x (code "\n")) refl (cut-rest xs)
-  where
-    go : (b : Bool) → eqb x (code "\n") ≡ b → (until (code "\n") xs ≡ length xs → cut xs ≡ record { lines = []; last = xs }) → cut (x ∷ xs) ≡ record { lines = []; last = x ∷ xs }
-    go true e h = absurd (let k = rw e at l in omega arith)
-    go false e h = let m : until (code "\n") xs ≡ length xs = (let k = rw e at l in omega arith) in rw (e, h m)
-
 -- ---- the lines that are left, the first of them line i, over the book b
 
 unfoldable pub open_rest : List ℕ → ℕ → Book → Answer Book
@@ -58,44 +34,41 @@ pub too_long : (text : List ℕ) → 16_384 < length text → opening text ≡ r
 unfolding opening
 too_long text l = rw (lt-leb (length text) 16_384 l)
 
-pub starts : (text : List ℕ) → length text ≤ 16_384 → (t : Tables) → t ≡ no_tables → open_rest text 1 (tables_book t) ≡ opening text
-unfolding open_rest opening
-starts text l t e = rw (ap tables_book e ∙ no_tables_lem, le-leb (length text) 16_384 l)
-
-pub all_read : (text rest : List ℕ) (i : ℕ) (b : Book) → open_rest rest i b ≡ opening text → length rest ≡ 0 → opening text ≡ ok b
-unfolding open_rest open_lines cut
-all_read text [] i b h e = sym h
-all_read text (x ∷ xs) i b h e = absurd (omega arith)
-
--- a turn over the tables t, where the first line ends at the place end
-pub record Turn (text rest : List ℕ) (i end : ℕ) (t : Tables) : Type 0 where
+-- the lines so far left the tables t; the rest, from line i on, opens to what the text opens to
+pub record Turn (text rest : List ℕ) (i : ℕ) (t : Tables) : Type 0 where
+  pub few : i + length rest ≤ length text + 1
   pub so_far : open_rest rest i (tables_book t) ≡ opening text
-  pub ends : end ≡ until (code "\n") rest
 
-module _ {text rest : List ℕ} {i end : ℕ} {t : Tables} (turn : Turn text rest i end t) where
-  pub no-LF : 0 < length rest → end ≡ length rest → opening text ≡ refused 2 i
+pub starts : (text : List ℕ) → length text ≤ 16_384 → (t : Tables) → t ≡ no_tables → Turn text text 1 t
+unfolding open_rest opening
+starts text l t e = record { few = omega arith; so_far = rw (ap tables_book e ∙ no_tables_lem, le-leb (length text) 16_384 l) }
+
+module _ {text rest : List ℕ} {i : ℕ} {t : Tables} (turn : Turn text rest i t) where
+  pub all_read : length rest ≡ 0 → opening text ≡ ok (tables_book t)
+  unfolding open_rest open_lines cut
+  all_read e = sym turn.so_far ∙ rw (nil_from_length rest e)
+
+  pub no-LF : T (has_no_lf rest) → 0 < length rest → opening text ≡ refused 2 i
   unfolding open_rest open_lines
-  no-LF l p =
-      let e = turn.ends in
-      sym turn.so_far ∙ rw (cut-rest rest (omega arith), ne_eqb (length rest) 0 (λ z. omega arith))
+  no-LF none l = sym turn.so_far ∙ rw (cut_end rest none, ne_eqb (length rest) 0 (λ z. omega arith))
 
-  module _ (p : end < length rest) where
-    abbrev line : List ℕ
-    line = take end rest
-
-    abbrev after : List ℕ
-    after = take (length rest - (end + 1)) (drop (end + 1) rest)
-
+  module _ {line after : List ℕ} (parts : CutAt (code "\n") rest line after) where
     line_first : opening text ≡ and_then (open_line i (tables_book t) line) (λ b. open_rest after (i + 1) b)
     unfolding open_rest open_lines
-    line_first =
-        let e = turn.ends in
-        sym turn.so_far ∙ rw (take_rest rest (end + 1), add-one end, cut_line rest (omega arith), sym e)
+    line_first = sym turn.so_far ∙ rw (parts.whole, cut-more line after parts.first)
 
-    -- m: the line's result with its number
-    pub line_says : {r : Result (Unit {0}) Reason} {t' : Tables} → LineTaken line t r t' → (m : Result (Unit {0}) Refusal) → m ≡ placed i r
-        → opening text ≡ and_then (answer_of (tables_book t') m) (λ b. open_rest after (i + 1) b)
-    line_says taken m e = line_first ∙ rw (sym (taken.answer i), e)
+    -- the line's result with its number
+    module _ {r : Result (Unit {0}) Reason} {t' : Tables} (taken : LineTaken line t r t') where
+      line_says : opening text ≡ and_then (answer_of (tables_book t') (placed i r)) (λ b. open_rest after (i + 1) b)
+      line_says = line_first ∙ rw (sym (taken.answer i))
+
+      pub line-refused : {e : Refusal} → placed i r ≡ Err e → opening text ≡ refused (number_of e.reason) e.place
+      line-refused p = rw p at line_says
+
+      pub line_done : placed i r ≡ Ok tt → Turn text after (i + 1) t'
+      line_done p =
+          let size : length rest ≡ length line + 1 + length after = rw parts.whole (grind (arith, length-append)) in
+          record { few = omega (arith, turn.few); so_far = sym (rw p at line_says) }
 
 -- ---- what `read` returns
 

@@ -1,24 +1,30 @@
 // The layout of the two tables: no other file knows an offset. specs/Layout.antt has the same places, specs/View.antt what they mean.
 //
 // Each table is rows of bytes in one array of a fixed size, since the engine has no heap. Row 0 begins with the number of cards, or of
-// rules; row n is card n's, or rule n's. What is read of a table is told for every value of it, and for any number of a card, a rule or an
-// entry.
-ghost use Rattle.std.specs.Prelude.{get_or, ◌*◌, ◌^◌, ◌≡◌, ◌+◌, ◌≤◌, ◌<◌, min};
-ghost use Rattle.model.specs.Limits.{card_limit, rule_limit, group_count, price_limit, condition_limit, most_digits};
+// rules; row n is card n's, or rule n's. What is read of a table is told for every value of it, and for any number of a card or a rule.
+// Bytes and no structs: so every value of a table is a book, and no contract over one has a condition (DECISIONS 24). Free functions and
+// no methods: a table is an array, which is what contracts speak of.
+ghost use Rattle.std.specs.List.{count_by};
+ghost use Rattle.std.specs.Option.{is_some};
+ghost use Rattle.std.specs.Prelude.{◌^◌, ◌≡◌, ◌≤◌, ◌<◌, map, min};
+ghost use Rattle.model.specs.Lists.{up_to};
+ghost use Rattle.model.specs.Limits.{card_limit, rule_limit, group_count, most_digits};
 ghost use Rattle.forms.specs.Numbers.{digits_in};
-ghost use Rattle.rulebook.specs.Layout.{card_byte, entry_size, row_at};
+ghost use Rattle.rulebook.specs.Layout.{card_byte, row_at};
 ghost use Rattle.rulebook.specs.View.{card_count, card_length, digit_at, member_view, rule_count};
 ghost use Rattle.rulebook.specs.View.{row_owner, row_kind, row_head, row_price_count, row_condition_count};
-ghost use Rattle.rulebook.specs.View.{price_at, condition_at};
-ghost use Rattle.rulebook.specs.inner.Writes.{CardAdded, MemberAdded, RuleAdded, with_head, with_price, with_condition};
+ghost use Rattle.rulebook.specs.View.{name_at, price_of, price_at, condition_of, condition_at};
+ghost use Rattle.rulebook.specs.inner.Writes.{CardAdded, MemberAdded, RuleAdded};
+ghost use Rattle.rulebook.specs.inner.Rows.{name_byte, price_bytes, condition_bytes, row_of};
+ghost use Rattle.letters.specs.Letters.{variable_said};
 
-use forms::{CardNumber, Condition, Price, RuleForm};
+use forms::{CardNumber, Condition, MOST_DIGITS, Price, RuleForm};
+use letters::{Name, Variable};
 
 // Where row 0 of either table has its count.
 const COUNT: usize = 0;
 
-const MOST_DIGITS: usize = limits::MOST_DIGITS as usize;
-
+// Widened by `as`, here and below: a constant calls no From.
 const CARD_ROW: usize = 1 + MOST_DIGITS + limits::GROUP_COUNT as usize;
 
 pub(crate) const RULE_ROW: usize = 32;
@@ -40,7 +46,7 @@ const DIGITS: usize = 1;
 
 const BEFORE_GROUPS: usize = MOST_DIGITS;
 
-// A rule's row: owner, kind, head, two counts, four prices, four conditions of three bytes each, and three bytes to spare.
+// A rule's row: owner, kind, head, two counts, prices and conditions of three bytes each, and three bytes to spare.
 const OWNER: usize = 0;
 
 const KIND: usize = 1;
@@ -53,17 +59,13 @@ const CONDITION_COUNT: usize = 4;
 
 const ENTRY_SIZE: usize = 3;
 
-const PRICE_GIVER: usize = 5;
+pub type Entry = [u8; ENTRY_SIZE];
 
-const PRICE_KIND: usize = 6;
+const PRICES: usize = 5;
 
-const PRICE_RECEIVER: usize = 7;
+const CONDITIONS: usize = PRICES + limits::PRICE_LIMIT as usize * ENTRY_SIZE;
 
-const GROUP_ASKED: usize = 17;
-
-const FIRST_NAME: usize = 18;
-
-const SECOND_NAME: usize = 19;
+const SPARE: usize = CONDITIONS + limits::CONDITION_LIMIT as usize * ENTRY_SIZE;
 
 // ---- the card table read
 
@@ -90,11 +92,13 @@ pub(crate) fn card_length(cards: &CardTable, m: u8) -> u8
     card_byte(cards, m, LENGTH).clamp(limits::LEAST_DIGITS, limits::MOST_DIGITS)
 }
 
-// Digit d of card m, from 0.
-pub fn digit_at(cards: &CardTable, m: u8, d: u8) -> u8
-    ensures { result ≡ digit_at cards.now m d }
+// The places for card m's digits, of which it has as many as its length says; past the last card, the last row's.
+#[tactic(auto, using(crate::proofs::Parts::digits_part))]
+pub fn digits(cards: &CardTable, m: u8) -> &[u8]
+    ensures { result.now ≡ up_to (digit_at cards.now (min m card_limit)) most_digits }
 {
-    card_byte(cards, m, DIGITS + usize::from(d))
+    let at = usize::from(m.min(limits::CARD_LIMIT)) * CARD_ROW + DIGITS;
+    &cards[at..at + MOST_DIGITS]
 }
 
 // Whether card m is in the group.
@@ -107,6 +111,38 @@ pub fn is_member(cards: &CardTable, group: u8, m: u8) -> bool
         && card_byte(cards, m, BEFORE_GROUPS + usize::from(group)) != 0
 }
 
+// ---- a variable and a name, which are a byte of a rule's row
+
+// Any byte is one, since every value of a table is a book: a variable is taken modulo 8, and the owner is 8 and above, as 0 is no group.
+// Functions and no From, nor for a price or a condition below: this reading of bytes is the table's alone, and a line has letters.
+
+fn variable_of(byte: u8) -> Variable
+    ensures { result ≡ variable_said byte }
+{
+    Variable {
+        number: byte % limits::VARIABLE_COUNT,
+    }
+}
+
+fn name_of(byte: u8) -> Name
+    ensures { result ≡ name_at byte }
+{
+    if byte < limits::VARIABLE_COUNT {
+        return Name::Variable(variable_of(byte));
+    }
+    Name::Owner
+}
+
+// The owner's is the first that is no variable's.
+fn name_byte(name: Name) -> u8
+    ensures { result ≡ name_byte name }
+{
+    match name {
+        Name::Variable(v) => v.number,
+        Name::Owner => limits::VARIABLE_COUNT,
+    }
+}
+
 // ---- the rule table read
 
 #[tactic(auto, unfolding(crate::specs::View::rule_count))]
@@ -116,10 +152,10 @@ pub fn rule_count(rules: &RuleTable) -> u8
     rules[COUNT].min(limits::RULE_LIMIT)
 }
 
-// A rule's row. Each entry has a method of its name, though some differ in a place alone: no other file knows one, or can ask for another.
+// A rule's row. Each part has a method of its name, though some differ in a place alone: no other file knows one, or can ask for another.
 #[derive(Clone, Copy)]
 pub struct Row<'a> {
-    bytes: &'a [u8],
+    bytes: &'a RuleRow,
 }
 
 // The row of rule n; past the last, the last row.
@@ -127,9 +163,9 @@ pub struct Row<'a> {
 pub fn row_at(rules: &RuleTable, n: u8) -> Row<'_>
     ensures { result.bytes.now ≡ row_at rules.now (min n rule_limit) }
 {
-    let at = usize::from(n.min(limits::RULE_LIMIT)) * RULE_ROW;
+    let (rows, _) = rules.as_chunks::<RULE_ROW>();
     Row {
-        bytes: &rules[at..at + RULE_ROW],
+        bytes: &rows[usize::from(n.min(limits::RULE_LIMIT))],
     }
 }
 
@@ -137,110 +173,128 @@ impl<'a> Row<'a> {
     pub fn owner(self) -> u8
         ensures { result ≡ row_owner self.entry.bytes.now }
     {
-        ascii::byte(self.bytes, OWNER)
+        self.bytes[OWNER]
     }
 
     pub fn kind(self) -> u8
         ensures { result ≡ row_kind self.entry.bytes.now }
     {
-        ascii::byte(self.bytes, KIND)
+        self.bytes[KIND]
     }
 
-    pub fn head(self) -> u8
-        ensures { (result ≡ row_head self.entry.bytes.now) × (result < 8) }
+    pub fn head(self) -> Variable
+        ensures { result ≡ row_head self.entry.bytes.now }
     {
-        ascii::byte(self.bytes, HEAD) % limits::VARIABLE_COUNT
+        variable_of(self.bytes[HEAD])
     }
 
-    pub fn price_count(self) -> u8
-        ensures { result ≡ row_price_count self.entry.bytes.now }
+    // Its prices, each read by `price_of`.
+    pub fn prices(self) -> &'a [Entry]
+        ensures { map price_of result.now ≡ up_to (price_at self.entry.bytes.now) (row_price_count self.entry.bytes.now) }
     {
-        ascii::byte(self.bytes, PRICE_COUNT).min(limits::PRICE_LIMIT)
+        let n = self.bytes[PRICE_COUNT].min(limits::PRICE_LIMIT);
+        let bytes = self.bytes;
+        let (entries, _) = bytes[PRICES..].as_chunks::<ENTRY_SIZE>();
+        &entries[..usize::from(n)]
     }
 
-    pub fn condition_count(self) -> u8
-        ensures { result ≡ row_condition_count self.entry.bytes.now }
+    // Its conditions, each read by `condition_of`. Of one function for prices too, the places and the way to read an entry would be parameters.
+    pub fn conditions(self) -> &'a [Entry]
+        ensures { map condition_of result.now ≡ up_to (condition_at self.entry.bytes.now) (row_condition_count self.entry.bytes.now) }
     {
-        ascii::byte(self.bytes, CONDITION_COUNT).min(limits::CONDITION_LIMIT)
+        let n = self.bytes[CONDITION_COUNT].min(limits::CONDITION_LIMIT);
+        let bytes = self.bytes;
+        let (entries, _) = bytes[CONDITIONS..].as_chunks::<ENTRY_SIZE>();
+        &entries[..usize::from(n)]
     }
+}
 
-    // A byte of entry i, a price or a condition, from 0: entry 0's is at the place.
-    fn entry_byte(self, place: usize, i: u8) -> u8
-        requires { place < 2 ^ 16 }
-        ensures { result ≡ get_or self.entry.bytes.now (place + i * entry_size) 0 }
-    {
-        ascii::byte(self.bytes, place + usize::from(i) * ENTRY_SIZE)
+pub fn price_of(entry: &Entry) -> Price
+    ensures { result ≡ price_of entry.now }
+{
+    let [giver, kind, receiver] = *entry;
+    Price {
+        giver: variable_of(giver),
+        kind,
+        receiver: name_of(receiver),
     }
+}
 
-    // Price i, from 0.
-    pub fn price(self, i: u8) -> Price
-        ensures { (result ≡ price_at self.entry.bytes.now i) × (result.giver < 8) }
-    {
-        Price {
-            giver: self.entry_byte(PRICE_GIVER, i) % limits::VARIABLE_COUNT,
-            kind: self.entry_byte(PRICE_KIND, i),
-            receiver: self.entry_byte(PRICE_RECEIVER, i),
-        }
+// The first byte is its group, or 0 where it has none.
+pub fn condition_of(entry: &Entry) -> Condition
+    ensures { result ≡ condition_of entry.now }
+{
+    let [group, first, second] = *entry;
+    if group == 0 {
+        return Condition::SameIssuer(name_of(first), name_of(second));
     }
-
-    // Condition i, from 0: its first byte is its group, or 0 where it has none.
-    pub fn condition(self, i: u8) -> Condition
-        ensures { result ≡ condition_at self.entry.bytes.now i }
-    {
-        let group = self.entry_byte(GROUP_ASKED, i);
-        let second = self.entry_byte(SECOND_NAME, i);
-        if group == 0 {
-            return Condition::SameIssuer(self.entry_byte(FIRST_NAME, i), second);
-        }
-        Condition::InGroup(group, second)
-    }
+    Condition::InGroup(group, name_of(second))
 }
 
 // ---- a rule's row written
 
-pub(crate) fn put_head(row: &mut RuleRow, form: RuleForm)
-    requires { (form.prices ≤ price_limit) × (form.conditions ≤ condition_limit) }
-    ensures { row.new ≡ with_head form row.old }
+// A price's bytes; zeros for none.
+fn price_bytes(price: Option<Price>) -> Entry
+    ensures { result ≡ price_bytes price }
 {
+    match price {
+        Some(p) => [p.giver.number, p.kind, name_byte(p.receiver)],
+        None => [0; ENTRY_SIZE],
+    }
+}
+
+// A condition's bytes; zeros for none.
+fn condition_bytes(condition: Option<Condition>) -> Entry
+    ensures { result ≡ condition_bytes condition }
+{
+    let Some(condition) = condition else {
+        return [0; ENTRY_SIZE];
+    };
+    match condition {
+        Condition::InGroup(group, name) => [group, 0, name_byte(name)],
+        Condition::SameIssuer(first, second) => [0, name_byte(first), name_byte(second)],
+    }
+}
+
+// How many there are: by a loop, since `filter` and `count` take 13 % more instructions to read 4 KB of rules.
+fn count<T>(entries: &[Option<T>]) -> usize
+    ensures { result ≡ count_by is_some entries.now }
+{
+    let mut n = 0;
+    for entry in entries {
+        if entry.is_some() {
+            n += 1;
+        }
+    }
+    n
+}
+
+// The row of a rule line that has the form.
+pub(crate) fn row_of(form: RuleForm) -> RuleRow
+    ensures { result ≡ row_of form }
+{
+    let mut row = [0; RULE_ROW];
     row[OWNER] = form.head.owner;
     row[KIND] = form.head.kind;
-    row[HEAD] = form.head.receiver;
-    row[PRICE_COUNT] = form.prices as u8;
-    row[CONDITION_COUNT] = form.conditions as u8;
-}
-
-pub(crate) fn put_price(row: &mut RuleRow, i: usize, price: Price)
-    requires { i < price_limit }
-    ensures { row.new ≡ with_price i price row.old }
-{
-    row[PRICE_GIVER + i * ENTRY_SIZE] = price.giver;
-    row[PRICE_KIND + i * ENTRY_SIZE] = price.kind;
-    row[PRICE_RECEIVER + i * ENTRY_SIZE] = price.receiver;
-}
-
-pub(crate) fn put_condition(row: &mut RuleRow, i: usize, condition: Condition)
-    requires { i < condition_limit }
-    ensures { row.new ≡ with_condition i condition row.old }
-{
-    let (group, first, second) = match condition {
-        Condition::InGroup(group, name) => (group, 0, name),
-        Condition::SameIssuer(first, second) => (0, first, second),
-    };
-    row[GROUP_ASKED + i * ENTRY_SIZE] = group;
-    row[FIRST_NAME + i * ENTRY_SIZE] = first;
-    row[SECOND_NAME + i * ENTRY_SIZE] = second;
+    row[HEAD] = form.head.receiver.number;
+    // By `as`: a count is 4 at most, and a `try_from` would have to be unwrapped.
+    row[PRICE_COUNT] = count(&form.prices) as u8;
+    row[CONDITION_COUNT] = count(&form.conditions) as u8;
+    row[PRICES..CONDITIONS].copy_from_slice(form.prices.map(price_bytes).as_flattened());
+    row[CONDITIONS..SPARE].copy_from_slice(form.conditions.map(condition_bytes).as_flattened());
+    row
 }
 
 // ---- the tables written
 
 // One card more. The bytes of its groups are as they were.
 pub(crate) fn add_card(cards: &mut CardTable, number: CardNumber)
-    requires { (card_count cards.old < card_limit) × (number.count ≤ most_digits) }
+    requires { card_count cards.old < card_limit }
     ensures { CardAdded (digits_in number) cards.old cards.new }
 {
     let m = card_count(cards) + 1;
     let at = usize::from(m) * CARD_ROW;
-    cards[at + LENGTH] = number.count as u8;
+    cards[at + LENGTH] = number.count;
     cards[at + DIGITS..at + DIGITS + MOST_DIGITS].copy_from_slice(&number.digits);
     cards[COUNT] = m;
 }

@@ -17,8 +17,6 @@ ghost use Rattle.std.specs.Prelude.{◌≡◌};
 use answers::{Reason, Refusal};
 use layout::{CARD_TABLE_SIZE, CardTable, RULE_TABLE_SIZE, RuleTable};
 
-const TEXT_LIMIT: usize = limits::TEXT_LIMIT as usize;
-
 // Cards with their groups, and rules, by value. Their layout is that of `layout`, their meaning that of specs/View.antt.
 #[derive(Clone, Copy, Debug, PartialEq, Eq)]
 pub struct Tables {
@@ -47,8 +45,8 @@ impl Tables {
 pub fn read(text: &[u8]) -> Result<Tables, Refusal>
     ensures { Reads result text.now }
 {
-    if TEXT_LIMIT < text.len() {
-        return Err(Refusal::from(Reason::TextTooLong));
+    if limits::TEXT_LIMIT < text.len() {
+        return Err(Reason::TextTooLong.into());
     }
     let mut tables = Tables::empty();
     text::take_lines(text, &mut tables)?;

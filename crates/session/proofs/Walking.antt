@@ -1,19 +1,16 @@
 -- A block walked from LF to LF: what it prints is what has been printed and what its rest prints.
 use mathlib.Core.Path.{◌≡◌, refl, sym, ◌∙◌, ap, ap₂, subst}
-use mathlib.Core.Bool.{Bool, true, false, cond}
-use mathlib.Core.List.{List, [], ◌∷◌, ◌++◌, append_assoc, append-nil}
+use mathlib.Core.List.{List, ◌++◌, append_assoc, append-nil}
 use mathlib.Core.Option.{Option}
 use Prim.Native.Char.{code}
-use Prim.Native.Nat.{ℕ, suc, ◌+◌, ◌*◌, ◌≤◌, ◌<◌}
+use Prim.Native.Nat.{ℕ, ◌+◌, ◌*◌, ◌≤◌}
 use native.Mathlib.Omega.{arith}
 use native.Mathlib.Nat.{zero-add}
-use native.Mathlib.Numerals.{add-one}
-use lib.Dec.{T, eqb}
-use lib.ListN.{length, take, drop, length-take, length-drop, length-append, take-append-drop}
-use lib.Seq.{take-suc, take_all, drop-drop, take-append-add, drop-append-add, length-take-le}
-use Rattle.model.specs.Lists.{until, ascii}
+use lib.Dec.{T}
+use lib.ListN.{length, take, drop, length-take, length-drop, length-append}
+use lib.Seq.{drop-drop, take-append-add, drop-append-add, length-take-le}
+use Rattle.model.specs.Lists.{ascii}
 use Rattle.model.specs.Book.{Book}
-use Rattle.model.proofs.Places.{until-there}
 use Rattle.model.specs.Reader.{has_no_lf}
 use Rattle.model.specs.Calls.{Call}
 use Rattle.model.specs.Holdings.{State}
@@ -24,34 +21,11 @@ use Rattle.commands.specs.declared.Dialect.{Dialect}
 use Rattle.session.specs.Input.{answer_to, after_line}
 use Rattle.session.specs.Blocks.{Progress, between_lines, line_room, block_says, after_block}
 use Rattle.engine.specs.View.{book_in, state_in}
-use Rattle.session.specs.inner.Parts.{FirstLine, PartKept, LineAnswered, progress_in, BlockAnswered}
+use Rattle.ascii.specs.Cut.{CutAt}
+use Rattle.session.specs.inner.Parts.{PartKept, LineAnswered, progress_in, BlockAnswered}
 use Rattle.session.specs.declared.Session.{Session}
 use Rattle.session.proofs.Lines.{says_both, after_both, part_says_lem, part_after, line-says, line_after, kept_command}
 use Rattle.session.proofs.Printing.{printed-front, printed_past, printed_all, printed_parts}
-
--- ---- the first line
-
-until-plain : (s : List ℕ) → T (has_no_lf (take (until (code "\n") s) s))
-unfolding until
-until-plain [] = tt
-until-plain (x ∷ s) = go (eqb x (code "\n")) refl (until-plain s)
-  where
-    go : (t : Bool) → eqb x (code "\n") ≡ t → T (has_no_lf (take (until (code "\n") s) s)) → T (has_no_lf (take (cond t 0 (suc (until (code "\n") s))) (x ∷ s)))
-    go true e h = tt
-    go false e h = rw e h
-
-module _ (block : List ℕ) (end : ℕ) (ends : end ≡ until (code "\n") block) where
-  plain_to : T (has_no_lf (take end block))
-  plain_to = rw ends (until-plain block)
-
-  pub first-line : end < length block → FirstLine block (take end block) (drop (end + 1) block)
-  first-line l =
-      let there : until (code "\n") block < length block = omega arith in
-      let line : take (suc end) block ≡ take end block ++ ascii "\n" = take-suc block end 0 l ∙ rw ends (ap (λ (x : ℕ). take (until (code "\n") block) block ++ (x ∷ [])) (until-there (code "\n") block there)) in
-      record { whole = sym (take-append-drop (end + 1) block) ∙ ap (λ (w : List ℕ). w ++ drop (end + 1) block) (rw (add-one end) line); plain = plain_to }
-
-  pub no-line : length block ≤ end → T (has_no_lf block)
-  no-line l = rw (take_all end block l) at plain_to
 
 -- ---- from line to line
 
@@ -69,7 +43,7 @@ module _ (d : Dialect) (b : Book) (p : Progress) (block out₀ : List ℕ) where
 
   module _ (q : Progress) (out : List ℕ) (count : ℕ) (rest : List ℕ) (w : Walking q out count rest) (short : length q.line ≤ line_room d) where
     -- a line more, answered after what was printed
-    module _ (line next : List ℕ) (f : FirstLine rest line next) where
+    module _ (line next : List ℕ) (f : CutAt (code "\n") rest line next) where
       abbrev command : Option Call
       command = command_in d (take (line_room d) (q.line ++ line))
 
@@ -83,11 +57,11 @@ module _ (d : Dialect) (b : Book) (p : Progress) (block out₀ : List ℕ) where
       rest-says =
           ap (block_says d b q) f.whole
           ∙ says_both d b q (line ++ ascii "\n") next
-          ∙ rw (line-says d b q.state q.line line short f.plain, line_after d b q.state q.line line short f.plain)
+          ∙ rw (line-says d b q.state q.line line short f.first, line_after d b q.state q.line line short f.first)
 
       rest_after : after_block d b q rest ≡ after_block d b after_it next
       rest_after =
-          ap (after_block d b q) f.whole ∙ after_both d b q (line ++ ascii "\n") next ∙ rw (line_after d b q.state q.line line short f.plain)
+          ap (after_block d b q) f.whole ∙ after_both d b q (line ++ ascii "\n") next ∙ rw (line_after d b q.state q.line line short f.first)
 
       rest_length : length rest ≡ length line + 1 + length next
       rest_length = omega (arith, ap length f.whole, length-append (line ++ ascii "\n") next, length-append line (ascii "\n"))
@@ -149,7 +123,7 @@ Walked s buffer = Walking s.dialect (book_in s.engine) (progress_in s buffer)
 
 module _ (s : Session) (buffer block out₀ : List ℕ) (line : length buffer ≡ line_room s.dialect) where
   -- a line that was answered
-  answered-more : (q : Progress) (out : List ℕ) (count : ℕ) (rest part next : List ℕ) → Walked s buffer block out₀ q out count rest → length q.line ≤ line_room s.dialect → FirstLine rest part next
+  answered-more : (q : Progress) (out : List ℕ) (count : ℕ) (rest part next : List ℕ) → Walked s buffer block out₀ q out count rest → length q.line ≤ line_room s.dialect → CutAt (code "\n") rest part next
       → (s₁ : Session) → GoesOn s s₁ q → (text tail : List ℕ) (s₂ : Session) (n : ℕ) → LineAnswered s₁ text (drop count out) s₂ tail n
       → command_in s.dialect (take (line_room s.dialect) (q.line ++ part)) ≡ command_in s.dialect text
       → Walked s buffer block out₀ (between_lines (state_in s₂.engine)) (take count out ++ tail) (count + n) next × GoesOn s s₂ (between_lines (state_in s₂.engine))
@@ -164,7 +138,7 @@ module _ (s : Session) (buffer block out₀ : List ℕ) (line : length buffer �
       )
 
   -- the first line, after what was kept of it
-  pub first-answered : s.size ≤ length buffer → length block * answer_size ≤ length out₀ → (part next : List ℕ) → FirstLine block part next
+  pub first-answered : s.size ≤ length buffer → length block * answer_size ≤ length out₀ → (part next : List ℕ) → CutAt (code "\n") block part next
       → (s₁ : Session) (buffer₁ : List ℕ) → PartKept s buffer part s₁ buffer₁
       → (s₂ : Session) (out : List ℕ) (n : ℕ) → LineAnswered s₁ (take s₁.size buffer₁) out₀ s₂ out n
       → Walked s buffer block out₀ (between_lines (state_in s₂.engine)) out n next × GoesOn s s₂ (between_lines (state_in s₂.engine))
@@ -181,7 +155,7 @@ module _ (s : Session) (buffer block out₀ : List ℕ) (line : length buffer �
       rw z at (answered-more p out₀ 0 block part next w (omega (arith, length-take s.size buffer)) f s₁ g (take s₁.size buffer₁) out s₂ n a same)
 
   -- a line that is read where it is
-  pub line-answered : (s₁ : Session) (out : List ℕ) (count : ℕ) (rest part next : List ℕ) → FirstLine rest part next
+  pub line-answered : (s₁ : Session) (out : List ℕ) (count : ℕ) (rest part next : List ℕ) → CutAt (code "\n") rest part next
       → Walked s buffer block out₀ (between_lines (state_in s₁.engine)) out count rest × GoesOn s s₁ (between_lines (state_in s₁.engine))
       → (s₂ : Session) (tail : List ℕ) (n : ℕ) → LineAnswered s₁ part (drop count out) s₂ tail n
       → Walked s buffer block out₀ (between_lines (state_in s₂.engine)) (take count out ++ tail) (count + n) next × GoesOn s s₂ (between_lines (state_in s₂.engine))

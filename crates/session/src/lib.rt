@@ -2,7 +2,8 @@
 //
 // `begin` answers for the text, `feed` for as much of a block as there is room to answer, `finish` for a last line without LF. However an
 // input is cut into blocks, what is printed is the same (specs/Theorems.antt); reading and writing are the caller's. So is the buffer for a
-// line that has no LF yet: at least one byte more than the dialect's longest line, lent to `feed` and `finish` as the call before left it.
+// line that has no LF yet: at least one byte more than the dialect's longest line, lent to `feed` and `finish` as the call before left it, so
+// that its 40,961 bytes are not copied for each block.
 
 #![tactic(auto)]
 
@@ -25,7 +26,8 @@ pub struct Session {
     pub size: usize,
 }
 
-// A session, of a refused text too, what opening the text answered, and how many bytes were printed.
+// A session, what opening the text answered, and how many bytes were printed. No Result: a refused text has a session too, of an engine without
+// cards, and its refusal is printed.
 #[derive(Clone, Copy)]
 pub struct Begun {
     pub session: Session,
@@ -37,6 +39,7 @@ pub struct Begun {
 #[derive(Clone, Copy)]
 pub struct Fed {
     pub session: Session,
+    // 0 where the buffer for a line lacks its room, and where `out` has none: an Option would tell the one and not the other.
     pub taken: usize,
     pub count: usize,
 }
@@ -45,6 +48,7 @@ pub struct Fed {
 fn line_room(dialect: Dialect) -> usize
     ensures { result ≡ line_room dialect }
 {
+    // `as`: the library has no From of 32 bits for a size.
     dialect.longest as usize + 1
 }
 

@@ -10,16 +10,15 @@ ghost use Rattle.session.specs.Input.{heading};
 ghost use Rattle.session.specs.inner.Parts.{LineAnswered};
 
 use crate::Session;
-use accounts::Account;
 use answers::{Answer, Reply};
 use commands::{ANSWER_SIZE, Command};
 use engine::Engine;
 use rulebook::layout::{card_count, rule_count};
 
 // One byte over its limit is enough to refuse an exchange or a proof.
-const EXCHANGE_ROOM: usize = limits::EXCHANGE_LIMIT as usize + 1;
+const EXCHANGE_ROOM: usize = limits::EXCHANGE_LIMIT + 1;
 
-const PROOF_ROOM: usize = limits::PROOF_LIMIT as usize + 1;
+const PROOF_ROOM: usize = limits::PROOF_LIMIT + 1;
 
 // What opening a text answered, at the start of a lent buffer: how many bytes it is.
 pub(crate) fn put_opening(answer: Answer, engine: &Engine, out: &mut [u8; ANSWER_SIZE]) -> usize
@@ -56,15 +55,9 @@ fn perform(engine: &mut Engine, command: Command) -> Reply
     let declared = card_count(&engine.tables.cards);
     let holdings = &mut engine.holdings;
     match command {
-        Command::Issue { card, kind, count } => {
-            accounts::issue(declared, holdings, Account { card, kind }, count)
-        }
-        Command::Redeem { card, kind, count } => {
-            accounts::redeem(declared, holdings, Account { card, kind }, count)
-        }
-        Command::Query { card, kind } => {
-            accounts::holding(declared, holdings, Account { card, kind })
-        }
+        Command::Issue { account, count } => accounts::issue(declared, holdings, account, count),
+        Command::Redeem { account, count } => accounts::redeem(declared, holdings, account, count),
+        Command::Query { account } => accounts::holding(declared, holdings, account),
         Command::Settle { exchange, proof } => settle(engine, exchange, proof),
     }
 }

@@ -1,21 +1,30 @@
 // Proofs of exchanges by rules that ask nothing.
-ghost use Rattle.std.specs.Prelude.{◌≡◌, ◌<◌, ◌≤◌, length};
+ghost use Rattle.std.specs.Prelude.{◌<◌};
 
 use std::array;
 
-// A record for each transfer: by the rule of its giver's number, with its receiver for a.
-pub(crate) fn proof<const N: usize>(exchange: &[[u8; 3]; N]) -> [[u8; 12]; N]
-    requires { N ≤ 32 }
-    ensures { length result ≡ N }
-{
+const RECORDS: usize = 32;
+
+// A record for each of the first 32 transfers: by the rule of its giver's number, with its receiver for a. A caller takes its part: a Vec would
+// ask each for memory that may lack.
+pub(crate) fn proof(exchange: &[[u8; 3]]) -> [[u8; 12]; RECORDS] {
     array::from_fn(
         |i: usize| -> [u8; 12]
-            requires { (i < N) × (N ≤ 32) }
+            requires { i < 32 }
         {
-            let [giver, kind, receiver] = exchange[i];
+            // `as` cuts nothing of a number below 32
             let number = i as u8 + 1;
-            let next = if i + 1 == N { 0 } else { number + 1 };
-            [next, number, giver, 0, receiver, 0, 0, 0, 0, 0, 0, 0]
+            let next = if i + 1 < exchange.len().min(RECORDS) {
+                number + 1
+            } else {
+                0
+            };
+            match exchange.get(i) {
+                Some([giver, kind, receiver]) => [
+                    next, number, *giver, 0, *receiver, 0, 0, 0, 0, 0, 0, 0,
+                ],
+                None => [0; 12],
+            }
         },
     )
 }

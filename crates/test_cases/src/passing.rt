@@ -1,7 +1,6 @@
 // Passing on what comes in: questions 22 and 23 of exchanges by rules that ask nothing.
-ghost use Rattle.std.specs.Prelude.{◌≤◌};
-
 use crate::{free, tell};
+use accounts::Account;
 use engine::Engine;
 use std::io;
 
@@ -14,21 +13,20 @@ fn open() -> Engine {
     .engine
 }
 
-fn settle<const N: usize>(
+fn settle(
     rt: &impl Print,
     label: &str,
     engine: Engine,
-    exchange: &[[u8; 3]; N],
-) -> io::Result<Engine>
-    requires { N ≤ 32 }
-{
+    exchange: &[[u8; 3]],
+) -> io::Result<Engine> {
     let proof = free::proof(exchange);
+    let records = &proof[..exchange.len().min(proof.len())];
     tell::settle(
         rt,
         label,
         engine,
         exchange.as_flattened(),
-        proof.as_flattened(),
+        records.as_flattened(),
     )
 }
 
@@ -110,8 +108,8 @@ pub(crate) fn rings(rt: &impl Print) -> io::Result<()> {
 // An engine that no calls make: card 1 holds one A and card 2 so many.
 fn holding(count: u32) -> Engine {
     let mut engine = open();
-    engine.holdings[0] = 1;
-    engine.holdings[16] = count;
+    engine.holdings[Account { card: 1, kind: 1 }.place()] = 1;
+    engine.holdings[Account { card: 2, kind: 1 }.place()] = count;
     engine
 }
 

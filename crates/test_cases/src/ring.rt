@@ -90,7 +90,7 @@ fn in_exchange(rt: &impl Print, rows: &[(&str, usize, u8)]) -> io::Result<()> {
     Ok(())
 }
 
-// Each with one byte of its proof changed.
+// Each with one byte of its proof changed. Of one function for both, each row's bytes would be given twice: to change, and as they are.
 fn in_proof(rt: &impl Print, rows: &[(&str, usize, u8)]) -> io::Result<()> {
     for (label, at, byte) in rows {
         ask(rt, label, &EXCHANGE, &changed(PROOF, *at, *byte))?;

@@ -1,5 +1,4 @@
 // What calls answer, printed after their labels as the programs print it.
-use accounts::Account;
 use answers::Reply;
 use commands::Command;
 use engine::{Called, Engine};
@@ -7,14 +6,10 @@ use std::io;
 
 // 01's book.
 pub(crate) fn open() -> Engine {
-    engine::open(
-        b"C 700056000016\nC 700012000019\nC 700012000027\nG 1 2\n\
-          R 1 A a < b C *\nR 2 B a < b A *\nR 3 C a < b B *\nR 2 B a < a D * = a *\n\
-          R 3 D a < b B *\nR 1 B a < a D b ? 1 b\nR 1 A a < b D *\nR 2 D a < a A *\n",
-    )
-    .engine
+    engine::open(ring_book::BOOK).engine
 }
 
+// Handle and label are two parameters: a struct of both would be made anew for each label.
 fn tell(rt: &impl Print, label: &str, reply: Reply) -> io::Result<()> {
     let mut out = [0; commands::ANSWER_SIZE];
     let count = commands::put_reply(reply, &mut out);
@@ -36,18 +31,11 @@ pub(crate) fn settle(
 
 // The call of a command line, if it is one on an account.
 fn call(engine: Engine, line: &str) -> Option<Called> {
-    match commands::read(line.as_bytes()) {
-        Some(Command::Issue { card, kind, count }) => {
-            Some(engine::issue(engine, Account { card, kind }, count))
-        }
-        Some(Command::Redeem { card, kind, count }) => {
-            Some(engine::redeem(engine, Account { card, kind }, count))
-        }
-        Some(Command::Query { card, kind }) => Some(engine::holding(
-            engine,
-            Account { card, kind },
-        )),
-        _ => None,
+    match commands::read(line.as_bytes())? {
+        Command::Issue { account, count } => Some(engine::issue(engine, account, count)),
+        Command::Redeem { account, count } => Some(engine::redeem(engine, account, count)),
+        Command::Query { account } => Some(engine::holding(engine, account)),
+        Command::Settle { exchange, proof } => None,
     }
 }
 

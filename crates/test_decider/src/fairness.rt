@@ -158,6 +158,7 @@ fn accepted(heads: &[Option<Transfer>], left: Left) -> bool {
     let Some(head) = *first else {
         return accepted(later, left);
     };
+    // Tried by `any`: where the recursion goes through a closure, it stays open that the closure may be called at each turn.
     for price in rules().iter().flat_map(|rule| rule.prices(head)).flatten() {
         if let Some(rest) = left.claim(head, price)
             && accepted(later, rest)

@@ -1,18 +1,17 @@
 // All exchanges of one, two and three transfers over 01's book: whether some chain settles each, beside a decider of fairness.
-ghost use Rattle.std.specs.Prelude.{◌≤◌};
+ghost use Rattle.std.specs.Prelude.{◌≤◌, length};
 
 use crate::fairness::{self, Exchange, Transfer};
 use accounts::Account;
 use engine::Engine;
 use std::alloc::{AllocError, Global};
 
-// An exchange that an engine is asked to settle: so many transfers of three bytes each.
+// An exchange that an engine is asked to settle.
 #[derive(Clone, Copy)]
-struct Question {
+struct Question<'a> {
     engine: Engine,
-    exchange: [[u8; 3]; 3],
-    count: usize,
-    ghost few: { count ≤ 3 },
+    exchange: &'a [[u8; 3]],
+    ghost few: { length exchange.now ≤ 3 },
 }
 
 // What the two sides say of an exchange.
@@ -24,12 +23,7 @@ pub(crate) struct Verdict {
 
 // 01's book, whose rules `fairness` has as a table.
 fn book() -> Engine {
-    engine::open(
-        b"C 700056000016\nC 700012000019\nC 700012000027\nG 1 2\n\
-          R 1 A a < b C *\nR 2 B a < b A *\nR 3 C a < b B *\nR 2 B a < a D * = a *\n\
-          R 3 D a < b B *\nR 1 B a < a D b ? 1 b\nR 1 A a < b D *\nR 2 D a < a A *\n",
-    )
-    .engine
+    engine::open(ring_book::BOOK).engine
 }
 
 fn enough(engine: Engine, kind: u32) -> Engine {
@@ -50,41 +44,34 @@ impl From<Transfer> for [u8; 3] {
     }
 }
 
-impl Question {
-    fn new(engine: Engine, exchange: Exchange) -> Question {
-        Question {
-            engine,
-            exchange: exchange.map(|transfer| transfer.map_or([0; 3], From::from)),
-            count: exchange
-                .iter()
-                .filter(|transfer| transfer.is_some())
-                .count(),
-        }
-    }
-
-    // The place of the refusal of these records, if they are refused.
+impl Question<'_> {
+    // The place of the refusal of these records, one for each transfer, if they are refused.
     fn refused_at(&self, proof: &[[u8; 12]; 3]) -> Option<u32> {
-        let exchange = self.exchange[..self.count].as_flattened();
-        let records = proof[..self.count].as_flattened();
-        let called = engine::settle(self.engine, exchange, records);
+        let records = &proof[..self.exchange.len()];
+        let called = engine::settle(
+            self.engine,
+            self.exchange.as_flattened(),
+            records.as_flattened(),
+        );
         called.reply.err().map(|refusal| refusal.place)
     }
 
     // Whether some choice of the record with this index and of the later ones settles the exchange.
     fn settles(&self, which: usize, proof: [[u8; 12]; 3]) -> bool {
-        if self.count <= which {
+        let Some([_, _, a]) = self.exchange.get(which) else {
             return false;
-        }
+        };
+        // `as` cuts nothing: three transfers at most
         let record = which as u8 + 1;
-        let next = if which + 1 == self.count {
+        let next = if which + 1 == self.exchange.len() {
             0
         } else {
             record + 1
         };
-        let a = self.exchange[which][2];
+        // A loop, as in `fairness`: where the recursion goes through a closure, it stays open that the closure may be called at each turn.
         for (rule, b) in (1..=8).flat_map(|rule| (0..=3).map(move |b| (rule, b))) {
             let mut chosen = proof;
-            chosen[which] = [next, record, rule, 0, a, b, 0, 0, 0, 0, 0, 0];
+            chosen[which] = [next, record, rule, 0, *a, b, 0, 0, 0, 0, 0, 0];
             match self.refused_at(&chosen) {
                 None => return true,
                 // a refusal at a later record says that this one is good
@@ -97,7 +84,7 @@ impl Question {
     }
 }
 
-// The transfer with a number below 24, if it is one.
+// The transfer with a number below 24; 24 stands for none, which so comes last in each order.
 fn transfer(number: u8) -> Option<Transfer> {
     let giver = number / 8 + 1;
     let kind = number / 2 % 4 + 1;
@@ -110,13 +97,24 @@ fn transfer(number: u8) -> Option<Transfer> {
 }
 
 fn compare(engine: Engine, exchange: Exchange) -> Verdict {
+    // As many as there are: those that are none are last, so that a part of the array is the exchange.
+    let transfers = exchange.map(|transfer| transfer.map_or([0; 3], From::from));
+    let count = exchange
+        .iter()
+        .filter(|transfer| transfer.is_some())
+        .count();
+    let question = Question {
+        engine,
+        exchange: &transfers[..count],
+    };
     Verdict {
         fair: fairness::fair(exchange),
-        settled: Question::new(engine, exchange).settles(0, [[0; 12]; 3]),
+        settled: question.settles(0, [[0; 12]; 3]),
     }
 }
 
-// Of each exchange: a multiset of transfers is tried in one order, with those that are none at its end.
+// Of each exchange: a multiset of transfers is tried in one order, with those that are none at its end. By number, since each loop begins where
+// the one around it is: an array of the transfers would be cut by the same numbers.
 pub(crate) fn verdicts(alloc: Global) -> Result<Vec<Verdict>, AllocError> {
     let engine = ample();
     let mut verdicts = Vec::new(alloc);

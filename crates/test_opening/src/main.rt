@@ -8,7 +8,7 @@ use rulebook::layout::{card_count, rule_count};
 use std::alloc::{AllocError, Global};
 use std::io;
 
-// Prints the label, the refusal's number and line or 0 0, and how many cards and rules there are.
+// Prints the label, the refusal's number and line, or 0 0 as the file stdout has it, and how many cards and rules there are.
 fn show(rt: &impl Print, label: &str, text: &[u8]) -> io::Result<()> {
     let (number, line, tables) = match rulebook::read(text) {
         Ok(tables) => (0, 0, tables),

@@ -9,10 +9,11 @@ use std::rt::Files;
 // One byte more than a path may have.
 const NAME_ROOM: usize = 4096;
 
-// One byte more than the longest line.
+// The longest line and the byte that shows that a line is longer. By `as`: a constant calls no From.
 const LINE_ROOM: usize = commands::THAWCROFT_LONGEST as usize + 1;
 
 fn run(rt: &(impl Files + Input + Print), name: &[u8]) {
+    // `ringswap` has these lines too: one function, generic in the buffer's size, would be given dialect, size and proof by each program.
     let dialect = commands::thawcroft();
     let mut buffer = [0; LINE_ROOM];
     prove!((dialect.longest as usize) < buffer.len());

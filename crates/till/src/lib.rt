@@ -8,7 +8,7 @@ ghost use Rattle.till.specs.inner.Parts.{SettlesOver, Replies};
 
 mod holdings;
 
-use answers::{Reason, Refusal, Reply};
+use answers::Reply;
 use rulebook::Tables;
 use rulebook::layout::card_count;
 
@@ -16,13 +16,7 @@ use rulebook::layout::card_count;
 fn settle_over(tables: &Tables, holdings: &mut [u32], exchange: &[u8], proof: &[u8]) -> Reply
     ensures { SettlesOver tables.now holdings.old exchange.now proof.now result holdings.new }
 {
-    let mut next = holdings::read(holdings)?;
-    if !holdings::undeclared_zero(&next, card_count(&tables.cards)) {
-        return Err(Refusal::from(Reason::BadHoldings));
-    }
-    if !holdings::sums_limited(&next) {
-        return Err(Refusal::from(Reason::BadHoldings));
-    }
+    let mut next = *holdings::accepted(card_count(&tables.cards), holdings)?;
     let told = settling::settle(tables, &mut next, exchange, proof)?;
     holdings.copy_from_slice(&next);
     Ok(told)
@@ -36,7 +30,8 @@ fn settle(text: &[u8], holdings: &mut [u32], exchange: &[u8], proof: &[u8]) -> R
     settle_over(&tables, holdings, exchange, proof)
 }
 
-// 0, or the number of the first question that is answered no: 1 to 7, 24, 12 to 23. The holdings are rewritten only on 0.
+// 0, or the number of the first question that is answered no: 1 to 7, 24, 12 to 23. The holdings are rewritten only on 0. The four parameters,
+// here and above, are those of the C interface.
 pub fn thawcroft_settle(text: &[u8], holdings: &mut [u32], exchange: &[u8], proof: &[u8]) -> u32
     ensures { Tills text.now holdings.old exchange.now proof.now result holdings.new }
 {

@@ -1,48 +1,53 @@
 -- An exchange cut into chunks of three bytes: they are its transfers.
 use mathlib.Core.Path.{◌≡◌, refl, sym, ◌∙◌, ap}
 use mathlib.Core.Bool.{Bool, not, cond}
-use mathlib.Core.List.{List, [], ◌∷◌, ◌++◌, map}
-use Prim.Native.Nat.{ℕ, zero, suc, ◌+◌, ◌*◌, ◌/◌}
+use mathlib.Core.List.{List, [], ◌∷◌, map}
+use Prim.Native.Nat.{ℕ, ◌+◌, ◌*◌, ◌/◌, ◌<◌}
 use native.Mathlib.Omega.{arith}
 use lib.ListN.{length, get_or, take, drop}
-use Rattle.std.specs.List.{position, prefix_len}
-use Rattle.std.specs.Simd.{first_chunks}
+use Rattle.std.specs.Borrow.{Bor}
+use Rattle.std.specs.Prelude.{Option, Some, None}
+use Rattle.std.specs.List.{position, prefix_len, slice_get}
+use Rattle.std.specs.Option.{option_map, option_copied}
+use Rattle.std.specs.Slice.{IsItemAt}
 use Rattle.std.proofs.Math.ListN.{get_or-map}
-use Rattle.std.proofs.lemmas.List.{get_or-take, get_or-drop, length-map}
-use Rattle.model.specs.Lists.{up_to}
+use Rattle.std.proofs.lemmas.Option.{slice_get_past, slice_get-get_or, slice_get-map}
+use Rattle.std.specs.Simd.{first_chunks}
+use Rattle.std.proofs.lemmas.List.{get_or-take, get_or-drop, length-map, length-take}
 use Rattle.model.specs.Transfers.{Transfer, transfer_at, exchange_of, no_transfer}
+use Rattle.model.proofs.Chunks.{mapped_chunks}
 use Rattle.model.proofs.Places.{up_to_cong}
 
 -- the transfer of three bytes
 abbrev pub of_bytes : List ℕ → Transfer
 of_bytes b = transfer_at b 0
 
-up_to_first : (f : ℕ → Transfer) (n : ℕ) → up_to f (suc n) ≡ f 0 ∷ up_to (λ i. f (suc i)) n
-up_to_first f zero = refl
-up_to_first f (suc n) = ap (λ (r : List Transfer). r ++ (f (suc n) ∷ [])) (up_to_first f n)
-
-later : (e : List ℕ) (p q : ℕ) → 3 + p ≡ q → get_or (drop 3 e) p 0 ≡ get_or e q 0
-later e p q h = get_or-drop 3 e p 0 ∙ ap (λ (r : ℕ). get_or e r 0) h
-
-shifted : (e : List ℕ) (i : ℕ) → transfer_at (drop 3 e) i ≡ transfer_at e (suc i)
-shifted e i =
-    rw (later e (i * 3) (suc i * 3) (omega arith), later e (i * 3 + 1) (suc i * 3 + 1) (omega arith), later e (i * 3 + 2) (suc i * 3 + 2) (omega arith))
-
-first≡ : (e : List ℕ) → of_bytes (take 3 e) ≡ transfer_at e 0
-first≡ e = rw (get_or-take 3 e 0 0 (omega arith), get_or-take 3 e 1 0 (omega arith), get_or-take 3 e 2 0 (omega arith))
-
-cut : (k : ℕ) (e : List ℕ) → map of_bytes (first_chunks 3 k e) ≡ up_to (transfer_at e) k
-cut zero e = refl
-cut (suc k) e =
-    rw (first≡ e, cut k (drop 3 e), up_to_cong _ _ k (λ i l. shifted e i)) (sym (up_to_first (transfer_at e) k))
+cut : (e : List ℕ) (i : ℕ) → of_bytes (take 3 (drop (i * 3) e)) ≡ transfer_at e i
+cut e i =
+    let s = drop (i * 3) e in
+    let z : i * 3 + 0 ≡ i * 3 = omega arith in
+    rw (get_or-take 3 s 0 0 (omega arith), get_or-take 3 s 1 0 (omega arith), get_or-take 3 s 2 0 (omega arith), get_or-drop (i * 3) e 0 0, get_or-drop (i * 3) e 1 0, get_or-drop (i * 3) e 2 0, z) refl
 
 pub chunks≡ : (e : List ℕ) → map of_bytes (first_chunks 3 (length e / 3) e) ≡ exchange_of e
 unfolding exchange_of
-chunks≡ e = cut (length e / 3) e
+chunks≡ e = mapped_chunks of_bytes 3 (length e / 3) e ∙ up_to_cong _ _ (length e / 3) (λ i l. cut e i)
 
--- the chunk at a place, or no bytes where there is none
-pub chunk≡ : (e : List ℕ) (i : ℕ) (x : List ℕ) → x ≡ get_or (first_chunks 3 (length e / 3) e) i [] → of_bytes x ≡ get_or (exchange_of e) i no_transfer
-chunk≡ e i x h = rw (h, ← chunks≡ e) (sym (get_or-map of_bytes (first_chunks 3 (length e / 3) e) i []))
+-- the chunk that is lent at a place, if there is one
+pub lent≡ : (e : List ℕ) (i : ℕ) (xs : List (List ℕ)) → xs ≡ first_chunks 3 (length e / 3) e → (r : Option (Bor (List ℕ))) → IsItemAt xs i r
+    → option_map of_bytes (option_copied r) ≡ slice_get (exchange_of e) i
+lent≡ e i xs cut r h = ap (option_map of_bytes) (lent r h) ∙ sym (slice_get-map of_bytes xs i) ∙ ap (λ (l : List Transfer). slice_get l i) (ap (map of_bytes) cut ∙ chunks≡ e)
+  where
+    lent : (r : Option (Bor (List ℕ))) → IsItemAt xs i r → option_copied r ≡ slice_get xs i
+    lent None h = sym (slice_get_past xs i h.3)
+    lent (Some x) h = sym (slice_get-get_or xs i x.now h.3.0 ∙ ap (λ (b : List ℕ). Some b) (sym h.1))
+
+-- the chunk at a place, and at one among the first n
+pub place≡ : (e : List ℕ) (xs : List (List ℕ)) → xs ≡ first_chunks 3 (length e / 3) e → (i : ℕ) → of_bytes (get_or xs i []) ≡ get_or (exchange_of e) i no_transfer
+place≡ e xs cut i = sym (get_or-map of_bytes xs i []) ∙ ap (λ (l : List Transfer). get_or l i no_transfer) (ap (map of_bytes) cut ∙ chunks≡ e)
+
+pub first_place≡ : (e : List ℕ) (xs : List (List ℕ)) → xs ≡ first_chunks 3 (length e / 3) e → (n i : ℕ) → i < length (take n xs)
+    → of_bytes (get_or (take n xs) i []) ≡ get_or (exchange_of e) i no_transfer
+first_place≡ e xs cut n i l = ap of_bytes (get_or-take n xs i [] (omega (arith, length-take n xs))) ∙ place≡ e xs cut i
 
 -- ---- the first chunk whose transfer passes a test
 

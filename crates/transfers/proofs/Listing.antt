@@ -89,12 +89,16 @@ module _ (e : List ℕ) where
     pub each : (j : ℕ) → j < i → transfer_of (get_or xs j zeros) ≡ get_or (exchange_of e) j no_transfer
     pub rest : (j : ℕ) → i ≤ j → transfer_of (get_or xs j zeros) ≡ no_transfer
 
-  pub begun-none : Begun 0 (replicate 32 zeros)
-  begun-none = record {
+  -- of any transfer of zeros
+  pub begun-none : (z : declared.Transfer) → (z.giver ≡ 0) × ((z.kind ≡ 0) × (z.receiver ≡ 0)) → Begun 0 (replicate 32 z)
+  begun-none z none = rw same (record {
     size = length-replicate {A = declared.Transfer} 32 zeros;
     each = λ j l. absurd (omega arith);
     rest = λ j l. ap transfer_of (all_equal zeros 32 j);
-  }
+  })
+    where
+      same : z ≡ zeros
+      same = λ i. record { giver = none.0 i; kind = none.1.0 i; receiver = none.1.1 i }
 
   pub begun_more : (xs : List declared.Transfer) (i : ℕ) → Begun i xs → (x : declared.Transfer) → transfer_of x ≡ get_or (exchange_of e) i no_transfer → i < 32
       → Begun (i + 1) (set xs i x)

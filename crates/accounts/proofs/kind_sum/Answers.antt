@@ -1,20 +1,31 @@
--- Each row is a card's: `SumTo` says of which cards the sum is, and that it stays far below the width.
+-- The chain gives each card's holding of the kind, from its row.
+use mathlib.Core.Path.{◌∙◌}
+use Rattle.std.proofs.Common.{rules, tests, ◌-◌}
 use native.Mathlib.Omega.{arith}
-use Rattle.accounts.proofs.AccountLaws.{sum_none, sum_row, sum_nothing}
+use Rattle.std.proofs.lemmas.Iterator.{YieldsList-from_slice, YieldsList-from_map}
+use Rattle.std.proofs.lemmas.Iterator.Consumers.{YieldsList-at, sum_by_from_yields_List, fits_by_from_yields_list}
+use Rattle.accounts.proofs.AccountLaws.{in_column, kind_rows, kind_none, total_small}
 use Rattle.accounts.proofs.kind_sum.Goals as goal
-use Rattle.accounts.proofs.kind_sum.Goals.{then-kind-lt1-via-then-kind-lt1, then-kind-lt1-via-else-kind-lt1+then-kind-gt-KIND_COUNT}
 
-pub returns-then-kind-lt1 : goal.returns-then-kind-lt1
-returns-then-kind-lt1 c =
-    sum_nothing _ _ (λ p q. elim c.then-kind-lt1.branch [
-      | then-kind-lt1-via-then-kind-lt1 w ↦ omega arith
-      | then-kind-lt1-via-else-kind-lt1+then-kind-gt-KIND_COUNT w ↦ omega arith
-    ])
+pub returns-then-not-is_kind : goal.returns-then-not-is_kind
+returns-then-not-is_kind c = (kind_none c.args.holdings.now _ c.if-not-is_kind.ensures, omega arith)
 
-pub loop-row-init : goal.loop-row-init
-loop-row-init c = sum_none _ _
+pub sum-requires-clause-fits : goal.sum-requires-clause-fits
+sum-requires-clause-fits c =
+    let h = c.args.holdings.now in
+    let rows = c.as_chunks.result.0.now in
+    let held = in_column (c.args.kind - 1) in
+    let total = kind_rows h rows c.args.kind c.told-holdings c.as_chunks.ensures.front c.if-not-is_kind.ensures in
+    fits_by_from_yields_list held rows c.map.result _
+    (YieldsList-from_map _ held (YieldsList-at c.map.ensures.source (YieldsList-from_slice rows cc)) c.map.ensures.closure (λ x r q k. search (rules, tests)))
+    (omega (arith, total, total_small h c.args.kind c.fits-holdings))
 
-pub loop-row-preserved : goal.loop-row-preserved
-loop-row-preserved c =
-    let rows = c.as_chunks.ensures in
-    sum_row _ _ _ _ _ _ _ c.told-holdings c.fits-holdings rows.front rows.front_len c.loop-row.invariant c.loop-row-test.true (omega arith) (omega arith) c.from-sum.ensures
+pub returns : goal.returns
+returns c =
+    let h = c.args.holdings.now in
+    let rows = c.as_chunks.result.0.now in
+    let held = in_column (c.args.kind - 1) in
+    let total = kind_rows h rows c.args.kind c.told-holdings c.as_chunks.ensures.front c.if-not-is_kind.ensures in
+    let sums = sum_by_from_yields_List held rows c.map.result _ c.sum.ensures.ran
+    (YieldsList-from_map _ held (YieldsList-at c.map.ensures.source (YieldsList-from_slice rows cc)) c.map.ensures.closure (λ x r q k. search (rules, tests))) in
+    (sums ∙ total, omega (arith, sums, total, total_small h c.args.kind c.fits-holdings))

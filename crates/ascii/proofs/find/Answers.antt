@@ -1,53 +1,59 @@
 -- The wanted byte is in none of the first i eights.
-use mathlib.Core.Path.{◌≡◌, sym, ◌∙◌}
+use mathlib.Core.Path.{◌≡◌, sym, ◌∙◌, ap}
 use mathlib.Core.List.{[]}
-use Prim.Native.Nat.{◌*◌, ◌/◌, ◌<◌}
+use Prim.Native.Nat.{◌*◌, ◌+◌, ◌/◌, ◌<◌}
 use native.Mathlib.Omega.{arith}
 use lib.ListN.{length, get_or, drop, length-drop}
 use Rattle.std.specs.Simd.{first_chunks}
 use Rattle.std.specs.Prelude.{position, ◌==◌}
-use Rattle.model.specs.Lists.{until}
-use Rattle.model.proofs.Places.{until_end, until_bound, to_end}
-use Rattle.ascii.proofs.Places.{found_or_end, found_in, missed_in}
+use Rattle.ascii.proofs.Places.{found, missed, found_in, missed_in, position_here, position_nowhere}
 use Rattle.ascii.proofs.find.Goals as goal
-use Rattle.ascii.proofs.find.Goals.{In-Some, After-first}
-
-rest : (c : In-Some) → c.in-Some.rest.now ≡ drop c.args.at c.args.text.now
-rest c = c.in-Some.ensures.lookup.0.2 ∙ to_end c.args.text.now c.args.at
+use Rattle.ascii.proofs.find.Goals.{After-first, After-first-2}
 
 -- the eight that a turn asks, where it is within the eights
-eight : (c : After-first) → c.first.result ≡ position (λ y. y == c.args.wanted) (get_or (first_chunks 8 (length (drop c.args.at c.args.text.now) / 8) (drop c.args.at c.args.text.now)) c.loop-i.i [])
-eight c = rw (c.as_chunks.ensures.front, rest (goal.at.After-first c).In-Some) at c.first.ensures
+eight : (c : After-first) → c.first.result ≡ position (λ y. y == c.args.wanted) (get_or (first_chunks 8 (length c.args.text.now / 8) c.args.text.now) c.loop-i.i [])
+eight c = rw c.as_chunks.ensures.front at c.first.ensures
 
-within : (c : After-first) → c.loop-i.i < length (drop c.args.at c.args.text.now) / 8
-within c = let e = rest (goal.at.After-first c).In-Some in let n = rw e at c.as_chunks.ensures.front_len in omega (arith, c.loop-i-test.true)
+within : (c : After-first) → c.loop-i.i < length c.args.text.now / 8
+within c = omega (arith, c.loop-i-test.true, c.as_chunks.ensures.front_len)
 
-pub returns-in_default : goal.returns-in_default
-returns-in_default c = let a = c.args in (omega (arith, until_end a.wanted a.text.now a.at (omega (arith, c.in_default.ensures.lookup.0))), omega arith)
+-- what the eights leave is asked at last
+all : (c : After-first-2) → length c.as_chunks.result.0.now ≡ c.loop-i.i
+all c = omega arith
 
-pub returns-in-Some-first : goal.returns-in-Some-first
-returns-in-Some-first c =
+last : (c : After-first-2) → c.as_chunks.result.1.now ≡ drop (c.loop-i.i * 8) c.args.text.now
+last c = let e : length c.args.text.now / 8 ≡ c.loop-i.i = omega (arith, all c, c.as_chunks.ensures.front_len) in rw e at c.as_chunks.ensures.back
+
+asked : (c : After-first-2) → c.first-2.result ≡ position (λ y. y == c.args.wanted) (drop (c.loop-i.i * 8) c.args.text.now)
+asked c = c.first-2.ensures ∙ ap (position (λ y. y == c.args.wanted)) (last c)
+
+few : (c : After-first-2) → c.loop-i.i * 8 + length (drop (c.loop-i.i * 8) c.args.text.now) ≡ length c.args.text.now
+few c = omega (arith, all c, c.as_chunks.ensures.front_len, length-drop (c.loop-i.i * 8) c.args.text.now)
+
+pub returns-in-Some : goal.returns-in-Some
+returns-in-Some c =
     let a = c.args in
-    let t = (goal.at.returns-in-Some-first c).After-first in
-    let (here, few) = found_in a.wanted (drop a.at a.text.now) c.loop-i.i (within t) c.in-Some-first.n (sym (eight t) ∙ c.in-Some-first.is) in
-    let w = within t in
-    (omega (arith, c.loop-i.invariant), omega (arith, length-drop a.at a.text.now))
+    let t = (goal.at.returns-in-Some c).After-first in
+    let (here, few) = found_in a.wanted a.text.now c.loop-i.i (within t) c.in-Some.n (sym (eight t) ∙ c.in-Some.is) in
+    sym (position_here a.wanted a.text.now _ (c.loop-i.invariant ∙ ap (λ k. c.loop-i.i * 8 + k) here) (omega (arith, within t)))
 
 pub loop-i-preserved : goal.loop-i-preserved
 loop-i-preserved c =
     let a = c.args in
     let t = (goal.at.loop-i-preserved c).After-first in
-    let past = missed_in a.wanted (drop a.at a.text.now) c.loop-i.i (within t) (sym (eight t) ∙ c.in_default-first.is) in
+    let past = missed_in a.wanted a.text.now c.loop-i.i (within t) (sym (eight t) ∙ c.in_default.is) in
     omega (arith, c.loop-i.invariant)
+
+pub returns-in_err-first : goal.returns-in_err-first
+returns-in_err-first c =
+    let a = c.args in
+    let t = (goal.at.returns-in_err-first c).After-first-2 in
+    let none = missed a.wanted (drop (c.loop-i.i * 8) a.text.now) (sym (asked t) ∙ c.in_err-first.was) in
+    c.from_residual.ensures ∙ sym (position_nowhere a.wanted a.text.now (c.loop-i.invariant ∙ omega (arith, none, few t)))
 
 pub returns : goal.returns
 returns c =
     let a = c.args in
-    let s = drop a.at a.text.now in
-    let e = rest (goal.at.returns c).In-Some in
-    let n = rw e at c.as_chunks.ensures.front_len in
-    let ended : length s / 8 ≡ c.loop-i.i = omega arith in
-    let back : c.as_chunks.result.1.now ≡ drop (c.loop-i.i * 8) s = rw (e, ended) at c.as_chunks.ensures.back in
-    let left : c.unwrap_or.result ≡ until a.wanted c.as_chunks.result.1.now = c.unwrap_or.ensures ∙ (rw c.first-2.ensures (found_or_end a.wanted c.as_chunks.result.1.now)) in
-    let found : c.unwrap_or.result ≡ until a.wanted (drop (c.loop-i.i * 8) s) = rw back at left in
-    (omega (arith, c.loop-i.invariant), omega (arith, c.loop-i.invariant, until_bound a.wanted s, length-drop a.at a.text.now))
+    let t = (goal.at.returns c).After-first-2 in
+    let (here, in_last) = found a.wanted (drop (c.loop-i.i * 8) a.text.now) _ (sym (asked t) ∙ c.in_ok-first.was) in
+    rw (all t) (sym (position_here a.wanted a.text.now _ (c.loop-i.invariant ∙ ap (λ k. c.loop-i.i * 8 + k) here) (omega (arith, few t))))

@@ -6,4 +6,4 @@ use Rattle.model.specs.Lists.{until}
 use Rattle.ascii.proofs.find.Given as goal
 
 abbrev pub invariant-loop-i : goal.invariant-loop-i
-invariant-loop-i l = until l.wanted (drop l.at l.text) ≡ l.i * 8 + until l.wanted (drop (l.i * 8) (drop l.at l.text))
+invariant-loop-i l = until l.wanted l.text ≡ l.i * 8 + until l.wanted (drop (l.i * 8) l.text)

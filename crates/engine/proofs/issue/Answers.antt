@@ -1,6 +1,6 @@
 -- The call is on the engine's holdings, over its book's number of cards.
-use Rattle.engine.proofs.CallLaws.{book-cards, called}
+use Rattle.engine.proofs.CallLaws.{called_among}
 use Rattle.engine.proofs.issue.Goals as goal
 
 pub returns : goal.returns
-returns c = called _ _ _ _ (c.issue-reply.ensures _ (rw c.card_count-declared.ensures (book-cards c.args.engine)))
+returns c = called_among _ _ _ _ _ c.card_count-declared.ensures c.issue-reply.ensures

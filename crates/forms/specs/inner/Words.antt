@@ -3,8 +3,8 @@ use Rattle.std.specs.Prelude.{Option, Some, None, if◌then◌else◌, false, Li
 use Rattle.model.specs.Reader.{in_printed_groups, printed_groups}
 use Rattle.model.specs.Opening.{card_digits}
 use Rattle.forms.specs.Numbers.{in_row}
-use Rattle.forms.specs.declared.cards.CardNumber.{CardNumber}
+use Rattle.forms.specs.declared.cards.CardLine.{CardLine}
 
--- the number of bytes in printed groups
-abbrev pub word_number_in : List ℕ → Option CardNumber
-word_number_in s = if in_printed_groups false s then Some (in_row (card_digits (printed_groups s))) else None
+-- what bytes in printed groups say
+abbrev pub word_in : List ℕ → Option CardLine
+word_in s = if in_printed_groups false s then Some (in_row (card_digits (printed_groups s))) else None

@@ -1,21 +1,20 @@
 -- Question 21 over the bytes: for each transfer of the exchange one byte, how often its giver, kind and receiver are asked as a
 -- price, counted at the first of equal transfers, and one flag for a price that no transfer meets.
-use Rattle.std.specs.Prelude.{◌≡◌, Bool, not, ◌&&◌, cond, List, ℕ, ◌+◌, ◌/◌, ◌≤◌, ◌<◌, Option, eqb, leb, length, get_or, take}
+use Rattle.std.specs.Prelude.{◌≡◌, Bool, not, ◌&&◌, cond, List, ℕ, ◌+◌, ◌≤◌, ◌<◌, Option, eqb, leb, length, get_or, take}
 use Rattle.std.specs.List.{list_all}
 use Rattle.std.specs.Option.{MatchOption}
-use Rattle.model.specs.Limits.{transfer_size, exchange_limit}
 use Rattle.model.specs.Lists.{every, up_to}
 use Rattle.model.specs.Transfers.{Transfer, Exchange, count, transfer_at, exchange_of}
-use Rattle.transfers.specs.View.{transfer_count}
+use Rattle.transfers.specs.View.{transfer_count, list_size}
 use Rattle.judge.specs.inner.Rows.{below}
 
 -- some transfer of the exchange is t
 abbrev pub occurs : List ℕ → Transfer → Bool
 occurs e t = leb 1 (count t (exchange_of e))
 
--- 32 counts, and the one of each transfer has room for k more
+-- a count for each place of a list, and the one of each transfer has room for k more
 pub record Room (e : List ℕ) (k : ℕ) (counts : List ℕ) : Type 0 where
-  pub size : length counts ≡ exchange_limit / transfer_size
+  pub size : length counts ≡ list_size
   pub free : (j : ℕ) → j < transfer_count e → get_or counts j 0 + k ≤ 255
 
 -- for each card a place of the exchange, or its end, before which the card gives none of the first i transfers

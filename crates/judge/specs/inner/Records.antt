@@ -1,6 +1,6 @@
 -- Questions 15 to 20 of a proof record over the bytes. They are put together as the code asks them; that the first unmet one is
 -- the model's is in proofs/Agreeing.antt.
-use Rattle.std.specs.Prelude.{Bool, false, not, ◌&&◌, cond, List, [], ◌∷◌, ◌++◌, ℕ, ◌-◌, eqb, get_or}
+use Rattle.std.specs.Prelude.{Option, Some, None, Bool, false, not, ◌&&◌, cond, List, [], ◌∷◌, ◌++◌, ℕ, ◌-◌, eqb, get_or}
 use Rattle.model.specs.Lists.{within}
 use Rattle.model.specs.Questions.{Question, ◌unless◌}
 use Rattle.model.specs.Transfers.{Transfer, transfer_at}
@@ -13,6 +13,10 @@ use Rattle.judge.specs.inner.Rows.{cards_fit, all_payable, all_hold}
 -- question 15 of transfer number k among n
 abbrev pub is_claimable : List Bool → ℕ → ℕ → Bool
 is_claimable marks n k = within k n && not (get_or marks (k - 1) false)
+
+-- the transfer that number k claims, where question 15 is met
+unfoldable pub claimable : List Bool → List ℕ → ℕ → Option Transfer
+claimable marks e k = cond (is_claimable marks (transfer_count e) k) (Some (transfer_at e (k - 1))) None
 
 -- question 20; left: the transfers that are not claimed yet, this record's being claimed
 abbrev pub is_linked : ℕ → ℕ → ℕ → Bool

@@ -3,12 +3,13 @@ use Rattle.std.specs.Prelude.{not, ◌≡◌, List, [], ◌∷◌, ℕ, ltb, len
 use Rattle.model.specs.Limits.{card_limit, rule_limit}
 use Rattle.model.specs.Lists.{within, any, eq_list}
 use Rattle.model.specs.Questions.{Question, ◌unless◌, first_unmet}
-use Rattle.model.specs.Reader.{group_of, number_at, is_card_line, card_read, is_group_line, is_rule_line}
+use Rattle.model.specs.Reader.{group_of, number_at, is_card_line, card_read, is_group_line, is_rule_line, rule_read}
 use Rattle.model.specs.Opening.{card_digits, is_card_number, open_line}
 use Rattle.answers.specs.View.{answer_of, unmet_of, placed}
 use Rattle.answers.specs.declared.Reason.{Reason}
 use Rattle.rulebook.specs.declared.Tables.{Tables}
 use Rattle.rulebook.specs.View.{card_count, rule_count, cards_of, tables_book}
+use Rattle.forms.specs.Forms.{form_said}
 use Rattle.rulebook.specs.inner.Rows.{row_of}
 use Rattle.rulebook.specs.inner.Writes.{CardAdded, MemberAdded, RuleAdded}
 
@@ -25,7 +26,7 @@ abbrev pub group_questions : ℕ → List ℕ → List Question
 group_questions cards w = (2 unless is_group_line w) ∷ (6 unless within (number_at w 4) cards) ∷ []
 
 abbrev pub rule_questions : ℕ → ℕ → List ℕ → List Question
-rule_questions cards rules w = (2 unless is_rule_line w) ∷ (6 unless within (number_at w 2) cards) ∷ (7 unless ltb rules rule_limit) ∷ []
+rule_questions cards rules w = (2 unless is_rule_line w) ∷ (6 unless within (rule_read w).owner cards) ∷ (7 unless ltb rules rule_limit) ∷ []
 
 -- ---- what a line leaves in a table
 
@@ -42,7 +43,7 @@ pub record GroupTaken (w cards : List ℕ) (result : Result (Unit {0}) Reason) (
   pub asked : AddedUnless (group_questions (card_count cards) w) (MemberAdded (group_of (get_or w 2 0)) (number_at w 4) cards) result cards cards'
 
 pub record RuleTaken (w : List ℕ) (cards : ℕ) (rules : List ℕ) (result : Result (Unit {0}) Reason) (rules' : List ℕ) : Type 0 where
-  pub asked : AddedUnless (rule_questions cards (rule_count rules) w) (RuleAdded (row_of w) rules) result rules rules'
+  pub asked : AddedUnless (rule_questions cards (rule_count rules) w) (RuleAdded (row_of (form_said (rule_read w))) rules) result rules rules'
 
 -- ---- any line
 

@@ -1,7 +1,5 @@
 -- What is kept of a line, and what a line and a block print and leave.
-use Rattle.std.specs.Prelude.{◌≡◌, List, ◌++◌, ℕ, ◌≤◌, T, length, take}
-use Rattle.model.specs.Lists.{ascii}
-use Rattle.model.specs.Reader.{has_no_lf}
+use Rattle.std.specs.Prelude.{◌≡◌, List, ◌++◌, ℕ, ◌≤◌, length, take}
 use Rattle.engine.specs.View.{book_in, state_in}
 use Rattle.commands.specs.Grammar.{answer_size}
 use Rattle.commands.specs.View.{Printed}
@@ -9,13 +7,6 @@ use Rattle.commands.specs.Dialects.{command_in}
 use Rattle.session.specs.Input.{answer_to, after_line}
 use Rattle.session.specs.Blocks.{Progress, block_says, after_block}
 use Rattle.session.specs.declared.Session.{Session}
-
--- ---- lines in a block
-
--- the block is the line, its LF, and the rest
-pub record FirstLine (block line rest : List ℕ) : Type 0 where
-  pub whole : block ≡ (line ++ ascii "\n") ++ rest
-  pub plain : T (has_no_lf line)
 
 -- ---- a line of which the first bytes of a buffer are kept
 

@@ -1,8 +1,6 @@
 -- The chain tests the transfers in order.
 use borrow.Author.Rules.{rules}
 use Prim.Native.Nat.{ℕ, ◌+◌}
-use native.Mathlib.Omega.{arith}
-use Rattle.std.proofs.lemmas.Grind.{common_steps}
 use Rattle.std.specs.Option.{option_map}
 use mathlib.Core.Path.{◌≡◌, sym, ◌∙◌, ap}
 use mathlib.Core.Bool.{not}
@@ -23,5 +21,5 @@ returns c =
     let found : c.position.result ≡ position (λ (b : List ℕ). p (of_bytes b)) c.as_chunks.result.0.now =
     position_from_yields_List (λ (b : List ℕ). p (of_bytes b)) _ _ _ c.position.ensures.ran (YieldsList-from_slice c.as_chunks.result.0.now (search rules)) (λ x b q k. search rules) in
     let place : c.position.result ≡ position p (exchange_of e) = found ∙ ap (position (λ (b : List ℕ). p (of_bytes b))) c.as_chunks.ensures.front ∙ position≡ p e in
-    let number : c.map.result ≡ option_map (λ i. i + 1) c.position.result = grind (arith, common_steps) in
+    let number : c.map.result ≡ option_map (λ i. i + 1) c.position.result = search rules in
     number ∙ ap (option_map (λ (i : ℕ). i + 1)) place ∙ sym (told_place (is_proper_of c.args.declared) (exchange_of e))

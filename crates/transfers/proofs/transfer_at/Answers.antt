@@ -1,12 +1,12 @@
--- A place within the exchange has its three bytes, one past its end zeros.
-use mathlib.Core.Path.{◌∙◌}
-use mathlib.Core.List.{[]}
-use native.Mathlib.Omega.{arith}
-use Rattle.transfers.proofs.Chunks.{chunk≡}
+-- The chunk at the place, if there is one, made a transfer.
+use borrow.Author.Rules.{rules}
+use mathlib.Core.Path.{◌≡◌, ◌∙◌}
+use Rattle.std.specs.Option.{option_map, option_copied}
+use Rattle.transfers.specs.View.{transfer_of}
+use Rattle.transfers.proofs.Chunks.{of_bytes, lent≡}
 use Rattle.transfers.proofs.transfer_at.Goals as goal
 
-pub returns-in-None : goal.returns-in-None
-returns-in-None c = chunk≡ c.args.exchange.now c.args.i [] (rw c.as_chunks.ensures.front at (c.in-None.ensures.lookup.4 (omega arith) []))
-
-pub returns-in-Some : goal.returns-in-Some
-returns-in-Some c = c.of.ensures ∙ chunk≡ c.args.exchange.now c.args.i c.in-Some.triple.now (rw c.as_chunks.ensures.front at (c.in-Some.ensures.lookup.4 (omega arith) []))
+pub returns : goal.returns
+returns c =
+    let made : option_map transfer_of c.map.result ≡ option_map of_bytes (option_copied c.get.result) = search rules in
+    made ∙ lent≡ _ _ _ c.as_chunks.ensures.front _ c.get.ensures.lookup

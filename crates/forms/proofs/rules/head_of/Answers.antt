@@ -1,36 +1,43 @@
--- The owner, the kind and the receiver are there, or there is no head.
-use mathlib.Core.Path.{◌≡◌, refl, sym, ◌∙◌, ap}
-use Prim.Native.Nat.{◌+◌}
-use lib.Dec.{eqb}
+-- Each part is there, or there is no head.
+use mathlib.Core.Path.{◌≡◌, sym, ◌∙◌}
+use native.Mathlib.Omega.{arith}
+use borrow.Author.Tests.{ltb-true, leb-true}
+use borrow.Author.Rules.{rules}
 use Rattle.std.proofs.lemmas.Option.{cond_some}
-use Rattle.model.specs.Reader.{owner_end}
-use Rattle.ascii.proofs.Options.{cond_none}
-use Rattle.forms.proofs.Parts.{chosen, no_owner, no_head-kind, no_head-receiver, head_is}
+use Rattle.model.proofs.Places.{to_end}
+use Rattle.model.proofs.Tests.{never_true}
+use Rattle.letters.proofs.NameLaws.{kind_none, variable_none}
+use Rattle.forms.proofs.Parts.{NumberHere, number_here, HeadRest, head_here, head_read, rest_long}
 use Rattle.forms.proofs.rules.head_of.Goals as goal
-use Rattle.forms.proofs.rules.head_of.Goals.{In_ok-m}
+use Rattle.forms.proofs.rules.head_of.Goals.{In_ok-owner}
+use mathlib.Core.Bool.{false}
+use Rattle.model.specs.Reader.{has_head}
 
--- where the owner's number ends
-after : (c : In_ok-m) → 2 + c.in_ok-m.m.width ≡ owner_end c.args.line.now
-after c = let m = cond_some _ _ _ (sym c.number_at.ensures.read ∙ c.in_ok-m.was) in rw (sym (ap (λ n. n.width) m.1)) refl
+-- the owner's number, and what follows it
+owner : (c : In_ok-owner) → NumberHere c.args.line.now 2 c.in_ok-owner.owner c.in_ok-owner.rest.now
+owner c = number_here c.args.line.now 2 c.in_ok-owner.ensures
 
-pub returns-in_err-m : goal.returns-in_err-m
-returns-in_err-m c = c.from_residual.ensures ∙ sym (no_owner c.args.line.now (cond_none _ _ (sym c.number_at.ensures.read ∙ c.in_err-m.was)))
+-- what follows it has the rest of a head, or there is no head
+lacking : (c : In_ok-owner) → (HeadRest c.in_ok-owner.rest.now → ⊥) → has_head c.args.line.now ≡ false
+lacking c none = never_true _ (λ e. none (rw (owner c).left (head_here c.args.line.now e).rest))
+
+pub returns-in_default-rest : goal.returns-in_default-rest
+returns-in_default-rest c = lacking (goal.at.returns-in_default-rest c).In_ok-owner (λ r. let l = rest_long r in grind arith)
 
 pub returns-in_err-kind : goal.returns-in_err-kind
 returns-in_err-kind c =
-    let none = cond_none _ _ (rw (c.byte.ensures, after (goal.at.returns-in_err-kind c).In_ok-m) at (sym c.kind.ensures ∙ c.in_err-kind.was)) in
-    c.from_residual-in_err-kind.ensures ∙ sym (no_head-kind c.args.line.now none)
+    let e = kind_none _ (sym (sym c.kind.ensures ∙ c.in_err-kind.was)) in
+    rw c.from_residual-in_err-kind.ensures (lacking (goal.at.returns-in_err-kind c).In_ok-owner (λ r. let k = r.kind in omega arith))
 
 pub returns-in_err-receiver : goal.returns-in_err-receiver
 returns-in_err-receiver c =
-    let none = cond_none _ _ (rw (c.byte-2.ensures, after (goal.at.returns-in_err-receiver c).In_ok-m) at (sym c.variable.ensures ∙ c.in_err-receiver.was)) in
-    c.from_residual-in_err-receiver.ensures ∙ sym (no_head-receiver c.args.line.now none)
+    let e = variable_none _ (sym (sym c.variable.ensures ∙ c.in_err-receiver.was)) in
+    rw c.from_residual-in_err-receiver.ensures (lacking (goal.at.returns-in_err-receiver c).In_ok-owner (λ r. let v = r.receiver in omega arith))
 
 pub returns : goal.returns
 returns c =
-    let m = cond_some _ _ _ (sym c.number_at.ensures.read ∙ c.in_ok-m.was) in
-    let kind = cond_some _ _ _ (rw c.byte.ensures at (sym c.kind.ensures ∙ c.in_ok-kind.was)) in
-    let receiver = cond_some _ _ _ (rw c.byte-2.ensures at (sym c.variable.ensures ∙ c.in_ok-receiver.was)) in
-    c.then_some.ensures ∙ chosen _ _
-    ∙ head_is c.args.line.now (eqb c.byte-5.result 32) (eqb c.byte-3.result 32) (eqb c.byte-4.result 32) m kind receiver
-    (rw c.byte-5.ensures refl) (rw c.byte-3.ensures refl) (rw c.byte-4.ensures refl)
+    let v = c.in_ok-owner.rest.now in
+    let (k, kind) = cond_some _ _ _ (sym c.kind.ensures ∙ c.in_ok-kind.was) in
+    let (r, receiver) = cond_some _ _ _ (sym c.variable.ensures ∙ c.in_ok-receiver.was) in
+    let there : HeadRest v = record { kind_space = search rules; kind = leb-true _ _ k; receiver_space = search rules; receiver = ltb-true _ _ r } in
+    head_read c.args.line.now (search rules) (owner (goal.at.returns c).In_ok-owner) there (to_end v 4) kind receiver

@@ -1,18 +1,18 @@
--- The places before i hold.
-use mathlib.Core.Path.{refl, ap}
-use mathlib.Core.Bool.{not}
-use Rattle.model.specs.Reader.{leading}
-use Rattle.forms.proofs.Counts.{counted, one_more}
+-- The places before i have what was found.
+use borrow.Author.Rules.{rules}
+use Rattle.forms.proofs.Leading.{none_yet, one_more, stopped, filled}
 use Rattle.forms.proofs.rules.leading.Goals as goal
+use Rattle.forms.proofs.rules.leading.Goals.{else-loop-i-test, then-loop-i-test+in_default}
 
 pub loop-i-init : goal.loop-i-init
-unfolding leading
-loop-i-init g c = λ test h. refl
-
-pub returns-then-not-holds-clause-told : goal.returns-then-not-holds-clause-told
-returns-then-not-holds-clause-told g c = λ test h.
-    counted (record { passed = c.loop-i.invariant test h; within = c.loop-i-test.true; tested = h c.loop-i.i c.holds.result c.loop-i-test.true c.holds.ensures }) (ap not c.if-not-holds.true)
+loop-i-init g c = λ there said width h. none_yet there said width g.row.N c.args.rest.now.now
 
 pub loop-i-preserved : goal.loop-i-preserved
-loop-i-preserved g c = λ test h.
-    one_more (record { passed = c.loop-i.invariant test h; within = c.loop-i-test.true; tested = h c.loop-i.i c.holds.result c.loop-i-test.true c.holds.ensures }) (ap not c.if-not-holds.false)
+loop-i-preserved g c = λ there said width h.
+    one_more there said width g.row.N _ (c.loop-i.invariant there said width h) (search rules) (let read = h _ _ c.in-Some.ensures in search rules)
+
+pub returns : goal.returns
+returns g c = λ there said width h. elim c.loop-i-test.branch [
+  | else-loop-i-test b ↦ filled there said width g.row.N _ (c.loop-i.invariant there said width h) (search rules)
+  | then-loop-i-test+in_default b ↦ stopped there said width g.row.N _ (c.loop-i.invariant there said width h) (search rules) (h _ _ b.in_default.ensures)
+]

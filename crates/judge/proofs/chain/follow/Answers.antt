@@ -2,14 +2,17 @@
 -- gathered once (`turn`), and the goals of the turn are answered from it.
 use borrow.Author.Rules.{rules}
 use native.Mathlib.Omega.{arith}
-use Prim.Native.Nat.{◌*◌, ◌≤◌}
-use mathlib.Core.Path.{◌≡◌, sym, ◌∙◌}
+use Prim.Native.Nat.{◌-◌, ◌/◌, ◌≤◌, ◌<◌}
+use mathlib.Core.Path.{◌≡◌, sym, ◌∙◌, ap}
 use mathlib.Core.Bool.{cond}
-use lib.ListN.{length}
+use mathlib.Core.List.{List, []}
+use Prim.Native.Nat.{ℕ}
+use lib.ListN.{length, get_or}
+use Rattle.model.proofs.Chunks.{chunk_at}
 use Rattle.model.specs.Transfers.{exchange_of}
 use Rattle.rulebook.specs.View.{book_of}
 use Rattle.judge.specs.inner.Counts.{is_paid}
-use Rattle.std.proofs.lemmas.Result.{err_from_is_err_and}
+use Rattle.answers.proofs.Exits.{exit}
 use Rattle.answers.proofs.Numbers.{number_positive}
 use Rattle.answers.specs.View.{placed}
 use Rattle.judge.proofs.Asking.{refused_at, met_at}
@@ -19,13 +22,20 @@ use Rattle.model.specs.Proof.{record_at, judge_chain}
 use Rattle.judge.proofs.chain.follow.Goals as goal
 use Rattle.judge.proofs.chain.follow.Goals.{After-is_paid, After-loop-left, After-at-rec, At-loop-left, In_ok-map_err, In-loop-left}
 
+more : (c : In-loop-left) → 0 < c.loop-left.left
+more c = omega (arith, c.loop-left-test.true)
+
 -- the next record is one of the proof
-here : (c : In-loop-left) → let n = c.loop-left.next in let p = c.args.proof.now in
-    (1 ≤ n) × (n * 12 ≤ length p) × (length p ≤ 3060)
-here c = let h = c.loop-left.invariant.1.here c.loop-left-test.true in (h.0, h.1, c.requires.few)
+here : (c : In-loop-left) → (1 ≤ c.loop-left.next) × (c.loop-left.next ≤ length c.as_chunks.result.0.now)
+here c = let h = c.loop-left.invariant.1.here (more c) in (h.0, omega (arith, h, c.as_chunks.ensures.front_len))
 
 taken : (c : After-at-rec) → c.at-rec.result.bytes.now ≡ record_at c.args.proof.now c.loop-left.next
-taken c = c.at-rec.ensures
+unfolding record_at
+taken c =
+    let n = c.loop-left.next in
+    let h = here (goal.at.After-at-rec c).In-loop-left in
+    let cut = c.as_chunks.ensures in
+    c.at-rec.ensures ∙ ap (λ (xs : List (List ℕ)). get_or xs (n - 1) []) cut.front ∙ chunk_at 12 (length c.args.proof.now / 12) (n - 1) c.args.proof.now [] (omega (arith, h, cut.front_len))
 
 turn : (c : In_ok-map_err) → let o = c.loop-left in
     Turn c.args.tables.now.cards c.args.tables.now.rules c.args.exchange.bytes.now c.args.proof.now o.left o.notes c.at-rec.result.bytes.now
@@ -33,9 +43,9 @@ turn c =
     let o = c.loop-left in
     let told : placed o.next c.question-asked.result ≡ c.map_err.result = search rules in
     let met = met_at o.next c.question-asked.result _ (told ∙ c.in_ok-map_err.was) in
-    let q = rw o.invariant.0 at c.question-asked.ensures in
+    let q = rw (o.invariant.0, c.as_chunks.ensures.front_len) at c.question-asked.ensures in
     turn_facts c.args.tables.now.cards c.args.tables.now.rules c.args.exchange.bytes.now c.args.proof.now c.args.exchange.short o.left o.notes o.invariant.0 o.next c.at-rec.result.bytes.now
-    o.invariant.1 c.loop-left-test.true (taken (goal.at.In_ok-map_err c).After-at-rec) (sym q ∙ met)
+    o.invariant.1 (more (goal.at.In_ok-map_err c).In-loop-left) (taken (goal.at.In_ok-map_err c).After-at-rec) (sym q ∙ met)
 
 -- the answer after the loop is question 21's
 ended : (c : After-loop-left) → let o = c.loop-left in
@@ -63,13 +73,13 @@ pub returns-in_err-map_err : goal.returns-in_err-map_err
 returns-in_err-map_err c =
     let at = goal.at.returns-in_err-map_err c in
     let o = c.loop-left in
-    let p = err_from_is_err_and c.from_residual.result c.from_residual.ensures.1 in
+    let out = exit _ _ c.from_residual.ensures.1 in
     let why = c.in_err-map_err.field-0.0 in
     let told : placed o.next c.question-asked.result ≡ c.map_err.result = search rules in
     let w = refused_at o.next c.question-asked.result why (told ∙ c.in_err-map_err.was) in
-    let q = rw (o.invariant.0, taken at.After-at-rec, w.0) at c.question-asked.ensures in
-    rw (p.1, p.2, q, w.1)
-    (going_stops c.args.tables.now.cards c.args.tables.now.rules c.args.exchange.bytes.now c.args.proof.now c.args.exchange.short o.left o.notes.claimed o.notes.asked o.notes.missing o.next o.invariant.1 c.loop-left-test.true
+    let q = rw (o.invariant.0, taken at.After-at-rec, w.0, c.as_chunks.ensures.front_len) at c.question-asked.ensures in
+    rw (out, q, w.1)
+    (going_stops c.args.tables.now.cards c.args.tables.now.rules c.args.exchange.bytes.now c.args.proof.now c.args.exchange.short o.left o.notes.claimed o.notes.asked o.notes.missing o.next o.invariant.1 (more at.In-loop-left)
     (λ z. omega (arith, q, z, number_positive why.reason)))
 
 pub note-requires : goal.note-requires

@@ -12,5 +12,5 @@ returns c =
     let a = c.args in
     let count = c.card_count-m.ensures in
     let l : length a.number.digits ≡ most_digits = search rules in
-    card-added a.cards.now a.number.digits _ _ a.number.count (omega (arith, count)) (omega (arith, count, c.requires)) (search rules) l c.requires.1
+    card-added a.cards.now a.number.digits _ _ a.number.count (omega (arith, count)) (omega (arith, count, c.requires)) (search rules) l a.number.few
     (rw (c.from-at.ensures, c.copy_from_slice.ensures.after) (row_written _ _ _ _ (omega arith) (search rules)))

@@ -4,7 +4,7 @@ use mathlib.Core.Bool.{true}
 use Prim.Native.Nat.{◌≤◌}
 use native.Mathlib.Omega.{arith}
 use Rattle.std.specs.Prelude.{Some}
-use Rattle.model.specs.Reader.{number_at, is_rule_line}
+use Rattle.model.specs.Reader.{is_rule_line, rule_read}
 use Rattle.forms.specs.Forms.{rule_form_in}
 use Rattle.rulebook.proofs.Forms.{rules_full, rule-taken}
 use Rattle.rulebook.proofs.Entries.{rule_said}
@@ -19,9 +19,9 @@ formed : (c : In_ok-form) → is_rule_line c.args.line.now ≡ true
 formed c = (rule_said c.args.line.now (read c)).0
 
 -- its owner is declared
-above : (c : Else-declared-form) → number_at c.args.line.now 2 ≤ c.args.declared
+above : (c : Else-declared-form) → (rule_read c.args.line.now).owner ≤ c.args.declared
 above c =
-    let owner : number_at c.args.line.now 2 ≡ c.in_ok-form.form.head.owner = ap (λ f. f.head.owner) (rule_said c.args.line.now (read (goal.at.Else-declared-form c).In_ok-form)).1 in
+    let owner : (rule_read c.args.line.now).owner ≡ c.in_ok-form.form.head.owner = ap (λ f. f.head.owner) (rule_said c.args.line.now (read (goal.at.Else-declared-form c).In_ok-form)).1 in
     omega (arith, c.if-declared-form.false)
 
 pub returns-then-rule_count-ge-RULE_LIMIT : goal.returns-then-rule_count-ge-RULE_LIMIT
@@ -35,4 +35,4 @@ add_rule-requires c = omega (arith, c.if-rule_count-ge-RULE_LIMIT.false, c.rule_
 pub returns : goal.returns
 returns c =
     let at = goal.at.returns c in
-    rule-taken (formed at.In_ok-form) (above at.Else-declared-form) (omega (arith, c.if-rule_count-ge-RULE_LIMIT.false, c.rule_count.ensures)) (rw c.row_of.ensures at c.add_rule.ensures)
+    rule-taken (formed at.In_ok-form) (above at.Else-declared-form) (omega (arith, c.if-rule_count-ge-RULE_LIMIT.false, c.rule_count.ensures)) (rw (c.row_of.ensures, ← (rule_said c.args.line.now (read at.In_ok-form)).1) at c.add_rule.ensures)

@@ -1,19 +1,23 @@
 -- By the first letter, one law for each form.
-use mathlib.Core.Path.{sym, ◌∙◌}
 use native.Mathlib.Omega.{arith}
+use borrow.Author.Rules.{rules}
+use Rattle.letters.proofs.Numbers.{inside}
 use Rattle.rulebook.proofs.Lines.{card-line, group-line, rule-line, no_line}
 use Rattle.rulebook.proofs.text.take_line.Goals as goal
 
 pub returns-in-67 : goal.returns-in-67
-returns-in-67 c = card-line (sym c.byte.ensures ∙ c.in-67.is) c.take.ensures
+returns-in-67 c = card-line (search rules) c.take.ensures
 
 pub returns-in-71 : goal.returns-in-71
-returns-in-71 c = group-line (sym c.byte.ensures ∙ c.in-71.is) c.take-in-71.ensures
+returns-in-71 c = group-line (search rules) c.take-in-71.ensures
 
 pub returns-in-82 : goal.returns-in-82
-returns-in-82 c = rule-line (sym c.byte.ensures ∙ c.in-82.is) (rw c.card_count.ensures at c.take-in-82.ensures)
+returns-in-82 c = rule-line (search rules) (rw c.card_count.ensures at c.take-in-82.ensures)
 
 pub returns-in_default : goal.returns-in_default
 returns-in_default c =
-    let e = c.byte.ensures in
-    no_line (λ x. omega arith) (λ x. omega arith) (λ x. omega arith)
+    let w = c.args.line.now in
+    no_line (λ x. let i = inside w 0 (omega arith) in omega arith) (λ x. let i = inside w 0 (omega arith) in omega arith) (λ x. let i = inside w 0 (omega arith) in omega arith)
+
+pub returns-in_default-2 : goal.returns-in_default-2
+returns-in_default-2 c = no_line (λ x. grind arith) (λ x. grind arith) (λ x. grind arith)

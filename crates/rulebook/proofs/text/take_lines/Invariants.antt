@@ -1,14 +1,10 @@
 -- What is left to read, over the book of the tables so far, is the whole text's opening.
-use mathlib.Core.Path.{◌≡◌}
-use Prim.Native.Nat.{◌+◌, ◌≤◌}
 use lib.ListN.{length}
-use Rattle.model.specs.Opening.{opening}
-use Rattle.rulebook.specs.View.{tables_book}
-use Rattle.rulebook.proofs.Texts.{open_rest}
+use Rattle.rulebook.proofs.Texts.{Turn}
 use Rattle.rulebook.proofs.text.take_lines.Given as goal
 
-abbrev pub invariant-loop-rest : goal.invariant-loop-rest
-invariant-loop-rest l = (l.number + length l.rest ≤ length l.text) × (open_rest l.rest (l.number + 1) (tables_book l.tables) ≡ opening l.text)
+abbrev pub invariant-loop-line : goal.invariant-loop-line
+invariant-loop-line l = Turn l.text l.rest l.number l.tables
 
-abbrev pub decreases-loop-rest : goal.decreases-loop-rest
-decreases-loop-rest l = length l.rest
+abbrev pub decreases-loop-line : goal.decreases-loop-line
+decreases-loop-line l = length l.rest

@@ -21,13 +21,13 @@ loop-line-init c =
 pub loop-line-preserved : goal.loop-line-preserved
 loop-line-preserved c =
     let l = c.loop-line in
-    let line = c.answer_line-count-in-Some-first_line in
+    let line = c.answer_line-count-in-Some-cut in
     let a = rw (to_end l.out l.count) at line.ensures in
     rw (put_to_end l.count l.out line.new.out)
-    (line-answered c.args.self.now c.args.buffer.now _ _ c.requires.line l.self _ _ _ _ _ c.in-Some-first_line.ensures l.invariant _ _ _ a)
+    (line-answered c.args.self.now c.args.buffer.now _ _ c.requires.line l.self _ _ _ _ _ c.in-Some-cut.ensures l.invariant _ _ _ a)
 
 pub returns : goal.returns
 returns c =
     let w = c.loop-line.invariant in
-    block-answered c.args.self.now c.args.buffer.now _ _ c.requires.line _ _ _ _ w.0 c.in_default-first_line.ensures _ _
+    block-answered c.args.self.now c.args.buffer.now _ _ c.requires.line _ _ _ _ w.0 c.in_default-cut.ensures _ _
     (record { state = w.1.state; dialect = w.1.dialect; book = w.1.book }) refl (omega arith) c.keep-2.ensures.long _ _ c.keep-3.ensures

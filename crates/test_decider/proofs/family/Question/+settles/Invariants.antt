@@ -1,6 +1,6 @@
 -- The count of records that are not chosen falls at each call.
-use Rattle.std.proofs.Common.{◌-◌}
+use Rattle.std.proofs.Common.{◌-◌, length}
 use Rattle.test_decider.proofs.family.Question.+settles.Given as goal
 
 abbrev pub decreases-settles : goal.decreases-settles
-decreases-settles l = l.self.now.count - l.which
+decreases-settles l = length l.self.now.exchange.now - l.which
