@@ -5,7 +5,7 @@ use borrow.Author.Tests.{eq-eqb, ne_eqb}
 use mathlib.Core.Path.{◌≡◌, sym, ◌∙◌}
 use mathlib.Core.Bool.{true}
 use Rattle.rulebook.specs.View.{book_of}
-use Rattle.judge.proofs.Beginning.{short, recorded, bad, Told, told_some, told_none, chosen, judging≡}
+use Rattle.judge.proofs.Beginning.{short, bad, Told, told_some, told_none, chosen, judging≡}
 use Prim.Native.Nat.{◌≤◌}
 use Rattle.transfers.specs.View.{transfer_count}
 use Rattle.transfers.proofs.Improper.{told_place}
@@ -53,10 +53,6 @@ pub returns-then-not-is_sized-2 : goal.returns-then-not-is_sized-2
 returns-then-not-is_sized-2 c =
     rw c.into-then-not-is_sized-2.ensures
     (sym (answer (goal.at.returns-then-not-is_sized-2 c).Start ∙ rw (met12 (goal.at.returns-then-not-is_sized-2 c).Else-not-is_sized, met13 (goal.at.returns-then-not-is_sized-2 c).In_default, sym c.is_sized-2.ensures ∙ c.if-not-is_sized-2.true)))
-
-pub follow-requires : goal.follow-requires
-follow-requires c =
-    recorded c.args.proof.now (met14 (goal.at.follow-requires c).Else-not-is_sized-2)
 
 pub returns : goal.returns
 returns c =

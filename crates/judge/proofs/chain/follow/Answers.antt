@@ -66,9 +66,6 @@ loop-left-init c =
           (going_first c.args.tables.now.cards c.args.tables.now.rules c.args.exchange.bytes.now c.args.proof.now c.args.exchange.short c.requires.some),
     )
 
-pub at-rec-requires : goal.at-rec-requires
-at-rec-requires c = let h = here c in (h.0, h.1)
-
 pub returns-in_err-map_err : goal.returns-in_err-map_err
 returns-in_err-map_err c =
     let at = goal.at.returns-in_err-map_err c in

@@ -2,9 +2,8 @@
 use borrow.Author.Rules.{rules}
 use native.Mathlib.Omega.{arith}
 use Prim.Native.Nat.{◌<◌}
-use mathlib.Core.Path.{◌≡◌, ◌∙◌, ap}
+use mathlib.Core.Path.{◌∙◌, ap}
 use Rattle.model.specs.Transfers.{Transfer}
-use Rattle.transfers.specs.View.{transfer_count}
 use Rattle.transfers.proofs.Chunks.{place≡}
 use Rattle.transfers.proofs.Listing.{here}
 use Rattle.judge.proofs.Giving.{gifts-none, gifts-more}
@@ -20,9 +19,3 @@ loop-i-preserved c =
     let g = ap (λ (u : Transfer). u.giver) (c.from.ensures ∙ place≡ e _ c.triples-triples.ensures.chunks o.i ∙ here e o.i (omega (arith, c.loop-i-test.true, c.triples-triples.ensures.count.0))) in
     let b : c.from.result.giver < 256 = search rules in
     rw (c.min.ensures, c.from-giver.ensures, g) (gifts-more _ o.i o.firsts o.invariant (rw g at b))
-
-pub returns : goal.returns
-returns c =
-    let o = c.loop-i in
-    let n : o.i ≡ transfer_count c.args.exchange.bytes.now = omega (arith, c.triples-triples.ensures.count.0, c.loop-i.auto.i-end, c.loop-i-test.false) in
-    rw n at o.invariant

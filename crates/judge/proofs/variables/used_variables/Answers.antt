@@ -6,7 +6,7 @@ use lib.ListN.{length}
 use Rattle.rulebook.specs.View.{price_of, price_at, row_price_count, condition_of, condition_at, row_condition_count}
 use Rattle.judge.specs.inner.Rows.{in_price, in_condition}
 use Rattle.judge.proofs.Entries.{entries_long, entry_is}
-use Rattle.judge.proofs.Marking.{marks_none, marks_more, marks_both, rule_marks}
+use Rattle.judge.proofs.Marking.{marks_more, marks_both, rule_marks}
 use Rattle.judge.proofs.variables.used_variables.Goals as goal
 use Rattle.judge.proofs.variables.used_variables.Goals.{After-prices-entry-items, After-conditions-condition-items}
 
@@ -16,9 +16,6 @@ prices c = entries_long price_of _ _ _ c.prices-entry-items.ensures
 conditions : (c : After-conditions-condition-items) → length c.conditions-condition-items.result.now ≡ row_condition_count c.args.row.bytes.now
 conditions c = entries_long condition_of _ _ _ c.conditions-condition-items.ensures
 
-pub loop-entry-init : goal.loop-entry-init
-loop-entry-init c = marks_none _
-
 pub loop-entry-preserved : goal.loop-entry-preserved
 loop-entry-preserved c =
     let o = c.loop-entry in
@@ -26,9 +23,6 @@ loop-entry-preserved c =
     let l = rw (prices (goal.at.loop-entry-preserved c).After-prices-entry-items) at c.loop-entry-test.true in
     let price = c.price_of-price.ensures ∙ entry_is price_of _ (price_at row) (row_price_count row) c.prices-entry-items.ensures o.entry-index [] l in
     marks_more _ (in_price row) o.entry-index _ _ o.invariant (rw price at (marks_both _ _ _ _ _ c.mark-in-loop-entry.ensures c.mark-in-loop-entry-2.ensures))
-
-pub loop-condition-init : goal.loop-condition-init
-loop-condition-init c = marks_none _
 
 pub loop-condition-preserved : goal.loop-condition-preserved
 loop-condition-preserved c =

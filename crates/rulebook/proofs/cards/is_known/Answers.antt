@@ -1,6 +1,6 @@
 -- The first i cards are unlike the number's digits. Card i + 1 is told from them by its first digit that differs, or by its length; otherwise
 -- it is equal.
-use mathlib.Core.Path.{◌≡◌, refl, sym, ◌∙◌, ap}
+use mathlib.Core.Path.{◌≡◌, sym, ◌∙◌, ap}
 use Prim.Native.Nat.{ℕ, suc, ◌<◌}
 use native.Mathlib.Omega.{arith}
 use native.Mathlib.Numerals.{add-one}
@@ -17,12 +17,6 @@ use Rattle.rulebook.proofs.Known.{other_length, other_digit, equal_card, Lent, l
 use borrow.Author.Rules.{rules}
 use Rattle.rulebook.proofs.cards.is_known.Goals as goal
 use Rattle.rulebook.proofs.cards.is_known.Goals.{After-card_length, After-digits-digits, After-loop-d, At-loop-d}
-
-pub cards-init : goal.cards-init
-cards-init c = (refl, refl)
-
-pub loop-d-init : goal.loop-d-init
-loop-d-init c = λ k l m. absurd (omega arith)
 
 -- as many digits as are counted
 long : (c : At-loop-d) → length (digits_in c.args.number) ≡ c.args.number.count
@@ -73,11 +67,6 @@ cards-preserved c =
       other_length c.args.cards.now (digits_in c.args.number) c.cards.i c.cards.invariant.0 (λ e. c.if-card_length-number.false (read_length at.After-card_length ∙ e ∙ long at.At-loop-d)),
       c.cards.invariant.1,
     )
-
-pub returns-after-cards : goal.returns-after-cards
-returns-after-cards c =
-    let all : c.cards.i ≡ c.card_count-i-end.result = search rules in
-    c.cards.invariant.1 ∙ sym (rw (all, c.card_count-i-end.ensures) at c.cards.invariant.0)
 
 pub returns-then-card_length-number : goal.returns-then-card_length-number
 returns-then-card_length-number c =

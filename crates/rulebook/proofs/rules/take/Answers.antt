@@ -29,9 +29,6 @@ returns-then-rule_count-ge-RULE_LIMIT c =
     let at = goal.at.returns-then-rule_count-ge-RULE_LIMIT c in
     rules_full (formed at.In_ok-form) (above at.Else-declared-form) (omega (arith, c.if-rule_count-ge-RULE_LIMIT.true, c.rule_count.ensures))
 
-pub add_rule-requires : goal.add_rule-requires
-add_rule-requires c = omega (arith, c.if-rule_count-ge-RULE_LIMIT.false, c.rule_count.ensures)
-
 pub returns : goal.returns
 returns c =
     let at = goal.at.returns c in

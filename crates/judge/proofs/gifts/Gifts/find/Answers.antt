@@ -22,9 +22,6 @@ first≡ c = rw c.from.ensures at c.from-first.ensures
 low : (c : After-from-first) → c.from-first.result ≤ transfer_count c.args.self.now.exchange.bytes.now
 low c = let giver : c.args.t.giver < 256 = search rules in omega (arith, first≡ c, c.args.self.now.gifts.low c.args.t.giver giver)
 
-pub slice_bounds-rest-count : goal.slice_bounds-rest-count
-slice_bounds-rest-count c = omega (arith, low (goal.at.slice_bounds-rest-count c).After-from-first, c.triples.ensures.count.0)
-
 pub returns : goal.returns
 unfolding eq_transfer
 returns c =
