@@ -284,7 +284,7 @@ pub fn price_receiver(row: &[u8], i: u8) -> u8
     ascii::byte(row, PRICE_RECEIVER + usize::from(i) * ENTRY_SIZE)
 }
 
-// Condition i, from 0: the group, or 0 for two cards of one issuer, and two names.
+// Condition i, from 0: the group and two names.
 
 pub fn group_asked(row: &[u8], i: u8) -> u8
     ensures { result ≡ group_asked row.now i }
