@@ -63,8 +63,11 @@ module _ (c : In_ok-number) where
   numbered : is_card_number (card_of at) ≡ true
   numbered = sym (asked at) ∙ T-eq _ said.0
 
+  same : digits_in c.in_ok-number.number ≡ take at.in_ok-line.line.count at.in_ok-line.line.digits
+  same = ap₂ {C = List ℕ} take said.1.0 said.1.1
+
   digits : digits_in c.in_ok-number.number ≡ card_of at
-  digits = rw (← (read at).1) at ap₂ take said.1.0 said.1.1 ∙ in_row_lem (card_of at) (number_size (card_of at) numbered).1
+  digits = rw (← (read at).1) at same ∙ in_row_lem (card_of at) (number_size (card_of at) numbered).1
 
 -- ---- the goals
 pub returns-then-card_count-ge-CARD_LIMIT : goal.returns-then-card_count-ge-CARD_LIMIT
