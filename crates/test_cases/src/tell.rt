@@ -12,7 +12,7 @@ pub(crate) fn open() -> Engine {
 fn tell(rt: &impl Print, label: &str, reply: Reply) {
     let mut out = [0; commands::ANSWER_SIZE];
     let count = commands::put_reply(reply, &mut out);
-    // What cannot be written ends nothing: the gate compares what was printed.
+    // What cannot be written ends nothing: the lines after it are still tried.
     let _ = print!(rt; "{label}: ");
     let _ = rt.write_all(&out[..count]);
 }

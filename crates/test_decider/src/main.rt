@@ -16,7 +16,7 @@ fn main(rt: HostRuntime) -> io::Result<()> {
         .iter()
         .filter(|verdict| verdict.fair != verdict.settled)
         .count();
-    // What cannot be written ends nothing: the gate compares what was printed.
+    // What cannot be written ends nothing.
     let _ = println!(rt;
         "family: {exchanges} exchanges, {fair} fair, {disagreements} disagreements"
     );

@@ -16,7 +16,7 @@ fn show(rt: &impl Print, label: &str, text: &[u8]) {
     };
     let cards = card_count(&tables.cards);
     let rules = rule_count(&tables.rules);
-    // What cannot be written ends nothing: the gate compares what was printed.
+    // What cannot be written ends nothing: the lines after it are still tried.
     let _ = println!(rt; "{label}: {number} {line}, cards {cards}, rules {rules}");
 }
 
