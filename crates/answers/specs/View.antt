@@ -59,6 +59,11 @@ abbrev pub reply_of : Result Told Refusal → model.Reply
 reply_of (Ok t) = model.ok (told_of t)
 reply_of (Err r) = model.refused (number_of r.reason) r.place
 
+-- of a call whose refusal is told by its number alone
+abbrev pub numbered_of : Result Told ℕ → model.Reply
+numbered_of (Ok t) = model.ok (told_of t)
+numbered_of (Err number) = model.refused number 0
+
 -- "0 or a refusal number, without place"
 abbrev pub refusal_number : model.Reply → ℕ
 refusal_number (model.ok told) = 0

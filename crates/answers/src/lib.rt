@@ -3,7 +3,7 @@
 #![tactic(auto)]
 
 ghost use Rattle.std.specs.Prelude.{◌≡◌};
-ghost use Rattle.answers.specs.View.{reply_of, refusal_number};
+ghost use Rattle.answers.specs.View.{reply_of, numbered_of, refusal_number};
 
 // Why opening or a call is refused: the questions of document 01 that can be answered no, each at its number.
 #[derive(Clone, Copy, Debug, PartialEq, Eq, Hash)]
@@ -91,9 +91,16 @@ pub type Reply = Result<Told, Refusal>;
 pub fn refusal_number(reply: Reply) -> u8
     ensures { result ≡ refusal_number (reply_of reply) }
 {
+    told_number(reply.map_err(|refusal| refusal.reason.into()))
+}
+
+// The same of a refusal that is told by its number alone: any number, also one that is no reason's.
+pub fn told_number(reply: Result<Told, u8>) -> u8
+    ensures { result ≡ refusal_number (numbered_of reply) }
+{
     match reply {
         Ok(_) => 0,
-        Err(refusal) => refusal.reason.into(),
+        Err(number) => number,
     }
 }
 

@@ -7,14 +7,19 @@
 
 mod calls;
 
+ghost use Rattle.std.specs.Prelude.{◌≤◌, length};
+
 use accounts::Account;
 use answers::Told;
 use calls::{repeat, repeat_settle};
 use commands::Command;
 use engine::Engine;
-use std::io;
+use std::io::Read;
 
 const REPEATS: u32 = 100_000;
+
+// Room for a rule text and the lines: what is timed has no heap.
+const INPUT_ROOM: usize = 32_768;
 
 // More bytes than an exchange or a proof may have. Arrays, since `unhex` fills what it is lent: a Vec would be filled with zeros first.
 const WORD_ROOM: usize = 4096;
@@ -57,22 +62,49 @@ fn settle(engine: &mut Engine, exchange: &[u8], proof: &[u8], times: u32) -> u32
     repeat_settle(engine, exchange, proof, times)
 }
 
-// Each line so many times.
-fn perform_lines(rt: &impl Print, engine: &mut Engine, lines: &str, times: u32) -> io::Result<()> {
-    for line in lines.lines() {
-        let accepted = perform(engine, line.as_bytes(), times);
-        println!(rt; "{accepted}")?;
+// Each line so many times; a last one without its LF is none. A write that fails ends nothing, since the calls are what is timed.
+fn perform_lines(rt: &impl Print, engine: &mut Engine, lines: &[u8], times: u32) {
+    let mut rest = lines;
+    while let Some((line, after)) = ascii::cut(rest, b'\n') {
+        let accepted = perform(engine, line, times);
+        let _ = println!(rt; "{accepted}");
+        rest = after;
     }
-    Ok(())
 }
 
-fn main(rt: HostRuntime) -> io::Result<()> {
-    let input = io::read_to_string(rt.alloc(), rt.reader())?;
-    let (text, calls) = input.as_str().split_once("\n\n").unwrap_or(("", ""));
-    let (once, often) = calls.split_once("\n\n").unwrap_or((calls, ""));
-    // the cut takes the text's last LF away
-    let text = format!(in rt.alloc(); "{text}\n")?;
-    let mut engine = engine::open(text.as_bytes()).engine;
-    perform_lines(&rt, &mut engine, once, 1)?;
-    perform_lines(&rt, &mut engine, often, REPEATS)
+// Standard input, as far as there is room: how many bytes. A read that fails is taken for its end.
+fn read_input(from: &mut impl Read, input: &mut [u8]) -> usize
+    ensures { result ≤ length input.new }
+{
+    let mut size = 0;
+    while size < input.len() {
+        let count = from.read(&mut input[size..]).unwrap_or(0);
+        if count == 0 {
+            break;
+        }
+        size += count;
+    }
+    size
+}
+
+// The lines up to the first empty one, and what follows that; all of them where there is none.
+fn cut_part(input: &[u8]) -> (&[u8], &[u8]) {
+    let mut rest = input;
+    while let Some((line, after)) = ascii::cut(rest, b'\n') {
+        if line.is_empty() {
+            return (&input[..input.len() - rest.len()], after);
+        }
+        rest = after;
+    }
+    (input, &[])
+}
+
+fn main(rt: HostRuntime) {
+    let mut input = [0; INPUT_ROOM];
+    let size = read_input(&mut rt.reader(), &mut input);
+    let (text, calls) = cut_part(&input[..size]);
+    let (once, often) = cut_part(calls);
+    let mut engine = engine::open(text).engine;
+    perform_lines(&rt, &mut engine, once, 1);
+    perform_lines(&rt, &mut engine, often, REPEATS);
 }

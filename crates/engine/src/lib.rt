@@ -8,7 +8,7 @@
 ghost use Rattle.model.specs.Calls.{issue, redeem, query, settle};
 ghost use Rattle.engine.specs.Contract.{Opens, Answers};
 
-use accounts::{Account, HOLDING_COUNT, Holdings};
+use accounts::{Account, Holdings};
 use answers::{Answer, Reply};
 use rulebook::Tables;
 use rulebook::layout::card_count;
@@ -43,7 +43,7 @@ pub fn open(text: &[u8]) -> Opened
     Opened {
         answer,
         engine: Engine {
-            holdings: [0; HOLDING_COUNT],
+            holdings: [0; 512],
             tables,
         },
     }

@@ -1,6 +1,6 @@
 // Card lines: `C digits` with a hyphen between two printed groups of digits.
-ghost use Rattle.std.specs.Prelude.{◌≡◌, not, T, MatchOption, set, take};
-ghost use Rattle.forms.specs.Numbers.{card_line_in, digits_in, is_number_in};
+ghost use Rattle.std.specs.Prelude.{◌≡◌, not, T, MatchOption, set};
+ghost use Rattle.forms.specs.Numbers.{card_line_in, is_number_in};
 ghost use Rattle.forms.specs.inner.Words.{word_in};
 
 use crate::numbers::CardNumber;
@@ -59,9 +59,9 @@ pub fn card_line(line: &[u8]) -> Option<CardLine>
 }
 
 impl CardLine {
-    // Question 4: its card number, if it has one.
+    // Question 4: its card number, if it has one, with the line's count and its row.
     pub fn number(self) -> Option<CardNumber>
-        ensures { MatchOption result (T (not (is_number_in self))) (λ n. T (is_number_in self) × (digits_in n ≡ take self.count self.digits)) }
+        ensures { MatchOption result (T (not (is_number_in self))) (λ n. T (is_number_in self) × ((n.count ≡ self.count) × (n.digits ≡ self.digits))) }
     {
         let CardLine { count, digits } = self;
         if !(LEAST_DIGITS..=MOST_DIGITS).contains(&count) {

@@ -2,7 +2,7 @@
 // a note of prices makes one from the rules alone. Contracts name the bytes of its row and record: the definitions are over these.
 ghost use Rattle.std.specs.Prelude.{◌≡◌};
 ghost use Rattle.transfers.specs.View.{transfer_of};
-ghost use Rattle.rulebook.specs.View.{price_of};
+ghost use Rattle.rulebook.specs.Rows.{price_of};
 ghost use Rattle.judge.specs.inner.Rows.{card_named, asked_by};
 
 use crate::proof::Record;

@@ -37,32 +37,37 @@ impl<'a> Record<'a> {
     pub(crate) fn next(self) -> u8
         ensures { result ≡ model.next self.entry.bytes.now }
     {
-        self.bytes[NEXT]
+        let bytes = self.bytes;
+        ascii::byte(bytes, NEXT)
     }
 
     pub(crate) fn claim(self) -> u8
         ensures { result ≡ model.claim self.entry.bytes.now }
     {
-        self.bytes[CLAIM]
+        let bytes = self.bytes;
+        ascii::byte(bytes, CLAIM)
     }
 
     pub(crate) fn rule(self) -> u8
         ensures { result ≡ model.rule_number self.entry.bytes.now }
     {
-        self.bytes[RULE]
+        let bytes = self.bytes;
+        ascii::byte(bytes, RULE)
     }
 
     // Byte 3, which has to be zero.
     pub(crate) fn zero(self) -> u8
         ensures { result ≡ get_or self.entry.bytes.now 3 0 }
     {
-        self.bytes[ZERO]
+        let bytes = self.bytes;
+        ascii::byte(bytes, ZERO)
     }
 
     pub(crate) fn card(self, v: Variable) -> u8
         ensures { result ≡ model.cards self.entry.bytes.now v.number }
     {
-        self.bytes[CARDS + usize::from(v.number)]
+        let bytes = self.bytes;
+        ascii::byte(bytes, CARDS + usize::from(v.number))
     }
 
     // The cards of the variables, a to h.

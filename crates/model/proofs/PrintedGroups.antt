@@ -4,10 +4,10 @@ use mathlib.Core.Path.{◌≡◌, refl, ◌∙◌, ap}
 use mathlib.Core.Bool.{Bool, true, false, ◌&&◌, ◌||◌, cond}
 use mathlib.Core.List.{List, [], ◌∷◌, ◌++◌, map, flatten}
 use Prim.Native.Char.{code}
-use Prim.Native.Nat.{ℕ}
+use Prim.Native.Nat.{ℕ, ◌≤◌}
 use native.Mathlib.Omega.{arith}
-use lib.Dec.{T, leb}
-use lib.ListN.{length}
+use lib.Dec.{T, leb, leb→le}
+use lib.ListN.{length, length-append}
 use borrow.Author.Tests.{le-leb, leb-true, eqb-true}
 use Rattle.model.specs.Lists.{every, each, ascii}
 use Rattle.model.specs.Grammar.{digit, card_word, is_printed_group}
@@ -141,3 +141,11 @@ digits_among (x ∷ xs) = go (is_digit x) (printed_groups xs) (digits_among xs)
     go true [] e = ap (λ (ds : List ℕ). digit_of x ∷ ds) e
     go true (g ∷ gs) e = ap (λ (ds : List ℕ). digit_of x ∷ ds) e
     go false gs e = e
+
+-- what is in printed groups has a digit
+pub some-digit : (xs : List ℕ) → T (in_printed_groups false xs) → 1 ≤ length (card_digits (printed_groups xs))
+unfolding flatten
+some-digit xs t =
+    let r = grouped false xs t in
+    let l : 1 ≤ length r.first = leb→le 1 (length r.first) r.filled in
+    rw r.cut (omega (arith, l, length-append r.first (flatten r.rest)))

@@ -58,6 +58,14 @@ settled-ok b s e p t h =
       covered = covered→ s (exchange_of e) q.0.0;
     }
 
+-- judging and settling tell no more than that they are done
+pub judging-done : (b : Book) (e p : List ℕ) (t : Told) → judging b e p ≡ ok t → t ≡ done
+unfolding judge_chain
+judging-done b e p t h =
+    let j = and_then_ok (chain b (exchange_of e) p (length (exchange_of e)) 1 (replicate (length (exchange_of e)) false) []) _ t (judged-ok b e p t h).judged in
+    let r = (in_order-ok ((21 unless contained j.0 (exchange_of e)) ∷ []) 0 (ok done) t j.2).1 in
+    cc
+
 pub only-done : (b : Book) (s : State) (e p : List ℕ) (t : Told) → reply_to b s (settle e p) ≡ ok t → t ≡ done
 unfolding reply_to
 only-done b s e p t h =

@@ -13,7 +13,7 @@ use Rattle.model.specs.Grammar.{Rule}
 use Rattle.forms.specs.Forms.{price_said, condition_said, in_places, form_said}
 use Rattle.forms.specs.declared.rules.Price.{Price}
 use Rattle.forms.specs.declared.rules.Condition.{Condition}
-use Rattle.rulebook.specs.Layout.{rule_row_size}
+use Rattle.rulebook.specs.Layout.{rule_row_size, price_giver_place, group_asked_place}
 use Rattle.rulebook.specs.inner.Rows.{price_bytes, condition_bytes, row_of}
 
 pub flat : {A : Type 0} (f : A → List ℕ) (xs : List A) → flat_map (λ x. x) (map f xs) ≡ flat_map f xs
@@ -39,7 +39,7 @@ pub conditions-size : (cs : List (Option Condition)) → length cs ≡ 4 → len
 conditions-size cs e = flat-size condition_bytes condition_size cs ∙ ap (λ (n : ℕ). n * 3) e
 
 pub row_put : (o k h m n : ℕ) (p q : List ℕ) → length p ≡ 12 → length q ≡ 12
-    → put_mid 17 12 (put_mid 5 12 ((o ∷ k ∷ h ∷ m ∷ n ∷ []) ++ replicate 27 0) p) q ≡ (o ∷ k ∷ h ∷ m ∷ n ∷ []) ++ p ++ q ++ replicate 3 0
+    → put_mid (group_asked_place 0) 12 (put_mid (price_giver_place 0) 12 ((o ∷ k ∷ h ∷ m ∷ n ∷ []) ++ replicate 27 0) p) q ≡ (o ∷ k ∷ h ∷ m ∷ n ∷ []) ++ p ++ q ++ replicate 3 0
 row_put o k h m n p q lp lq =
     let z : List ℕ = replicate 15 0 in
     let before : take 12 (p ++ z) ≡ p = rw lp at (take-append_seam p z) in

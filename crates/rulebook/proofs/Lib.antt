@@ -5,6 +5,7 @@ pub mod Mapped
 pub mod Bytes
 pub mod Known
 pub mod Rows
+pub mod Said
 pub mod Grown
 pub mod Forms
 pub mod Entries

@@ -12,8 +12,9 @@ use Rattle.model.specs.Limits.{most_digits}
 use Rattle.model.specs.Lists.{up_to}
 use Rattle.model.proofs.Chunks.{chunk_at, mapped_chunks}
 use Rattle.model.proofs.Places.{up_to_length, up_to_at, up_to_cong}
-use Rattle.rulebook.specs.Layout.{card_row_size, rule_row_size, rule_byte, row_at, entry_size, entry_at}
+use Rattle.rulebook.specs.Layout.{card_row_size, rule_row_size, rule_byte, row_at, entry_size, price_giver_place, group_asked_place}
 use Rattle.rulebook.specs.View.{digit_at}
+use Rattle.rulebook.specs.Rows.{price_entry, condition_entry}
 
 -- n bytes from a place on, of which f tells the byte at each
 part : (t : List ℕ) (at n : ℕ) (f : ℕ → ℕ) → ((j : ℕ) → get_or t (at + j) 0 ≡ f j) → at + n ≤ length t → take n (drop at t) ≡ up_to f n
@@ -32,18 +33,27 @@ module _ {A : Type 0} where
   fewer s (suc n) zero xs l = absurd (omega arith)
   fewer s (suc n) (suc k) xs l = ap (λ r. take s xs ∷ r) (fewer s n k (drop s xs) (omega arith))
 
-first_byte : (row : List ℕ) (at : ℕ) → up_to (λ j. get_or row (at + j) 0) entry_size ≡ entry_at row at
-first_byte row at = let z : at + 0 ≡ at = omega arith in ap (λ (k : ℕ). get_or row k 0 ∷ get_or row (at + 1) 0 ∷ get_or row (at + 2) 0 ∷ []) z
+-- an entry's bytes, by the places of its three parts
+module _ (row : List ℕ) where
+  entry_bytes : {x y z : ℕ} (p : ℕ) → p ≡ x → p + 1 ≡ y → p + 2 ≡ z → up_to (λ j. get_or row (p + j) 0) entry_size ≡ get_or row x 0 ∷ get_or row y 0 ∷ get_or row z 0 ∷ []
+  entry_bytes p a b d = let e : p + 0 ≡ p = omega arith in rw (e, ← a, ← b, ← d)
+
+  pub price_bytes : (i : ℕ) → up_to (λ j. get_or row (price_giver_place i + j) 0) entry_size ≡ price_entry row i
+  price_bytes i = entry_bytes (price_giver_place i) refl (omega arith) (omega arith)
+
+  pub condition_bytes : (i : ℕ) → up_to (λ j. get_or row (group_asked_place i + j) 0) entry_size ≡ condition_entry row i
+  condition_bytes i = entry_bytes (group_asked_place i) refl (omega arith) (omega arith)
 
 -- the first n entries of the m bytes from a place to the row's end, each read by f
-pub entries_part : {B : Type 0} (f : List ℕ → B) (row : List ℕ) (at m n : ℕ) → n * entry_size ≤ m → at + m ≡ length row
-    → let rest = take m (drop at row) in map f (take n (first_chunks entry_size (length rest / entry_size) rest)) ≡ up_to (λ i. f (entry_at row (at + i * entry_size))) n
-entries_part f row at m n l h =
+pub entries_part : {B : Type 0} (f : List ℕ → B) (row : List ℕ) (at m n : ℕ) (entry : ℕ → List ℕ)
+    → ((i : ℕ) → up_to (λ j. get_or row (at + i * entry_size + j) 0) entry_size ≡ entry i) → n * entry_size ≤ m → at + m ≡ length row
+    → let rest = take m (drop at row) in map f (take n (first_chunks entry_size (length rest / entry_size) rest)) ≡ up_to (λ i. f (entry i)) n
+entries_part f row at m n entry bytes l h =
     let all : take m (drop at row) ≡ drop at row = take_all m (drop at row) (omega (arith, h, length-drop at row)) in
     let k : n ≤ length (drop at row) / entry_size = omega (arith, l, h, length-drop at row) in
     rw (all, fewer entry_size n (length (drop at row) / entry_size) (drop at row) k)
     (mapped_chunks f entry_size n (drop at row)
-    ∙ up_to_cong _ _ n (λ i z. let at' = at + i * entry_size in ap f (rw (drop-drop (i * entry_size) at row) (part row at' entry_size (λ j. get_or row (at' + j) 0) (λ j. refl) (omega (arith, z, l, h)) ∙ first_byte row at'))))
+    ∙ up_to_cong _ _ n (λ i z. let at' = at + i * entry_size in ap f (rw (drop-drop (i * entry_size) at row) (part row at' entry_size (λ j. get_or row (at' + j) 0) (λ j. refl) (omega (arith, z, l, h)) ∙ bytes i))))
 
 pub digits_part : (cards : List ℕ) (m : ℕ) → m * card_row_size + 1 + most_digits ≤ length cards
     → take (m * card_row_size + 1 + most_digits - (m * card_row_size + 1)) (drop (m * card_row_size + 1) cards) ≡ up_to (digit_at cards m) most_digits

@@ -1,7 +1,7 @@
 -- Where the bytes of the two tables are. Each table is rows of bytes, one after the other: row 0 begins with the number of cards, or of
 -- rules, and row n is card n's, or rule n's.
-use Rattle.std.specs.Prelude.{List, [], ◌∷◌, ℕ, suc, ◌+◌, ◌*◌, get_or}
-use Rattle.model.specs.Limits.{card_limit, rule_limit, group_count, price_limit, most_digits}
+use Rattle.std.specs.Prelude.{List, ℕ, suc, ◌+◌, ◌*◌, get_or}
+use Rattle.model.specs.Limits.{card_limit, rule_limit, group_count, most_digits}
 use Rattle.model.specs.Lists.{up_to}
 
 -- where row 0 of either table has its count
@@ -65,13 +65,21 @@ condition_count_place = 4
 abbrev pub entry_size : ℕ
 entry_size = 3
 
--- the entry at a place of the row
-abbrev pub entry_at : List ℕ → ℕ → List ℕ
-entry_at row at = get_or row at 0 ∷ get_or row (at + 1) 0 ∷ get_or row (at + 2) 0 ∷ []
+abbrev pub price_giver_place : ℕ → ℕ
+price_giver_place i = 5 + i * entry_size
 
-abbrev pub price_place : ℕ → ℕ
-price_place i = 5 + i * entry_size
+abbrev pub price_kind_place : ℕ → ℕ
+price_kind_place i = 6 + i * entry_size
+
+abbrev pub price_receiver_place : ℕ → ℕ
+price_receiver_place i = 7 + i * entry_size
 
 -- and four conditions of three bytes: the group, or 0 for ` = z z`, and two names
-abbrev pub condition_place : ℕ → ℕ
-condition_place i = 5 + price_limit * entry_size + i * entry_size
+abbrev pub group_asked_place : ℕ → ℕ
+group_asked_place i = 17 + i * entry_size
+
+abbrev pub first_name_place : ℕ → ℕ
+first_name_place i = 18 + i * entry_size
+
+abbrev pub second_name_place : ℕ → ℕ
+second_name_place i = 19 + i * entry_size

@@ -1,4 +1,5 @@
 pub mod Layout
 pub mod View
+pub mod Rows
 pub mod Reads
 pub mod inner

@@ -1,21 +1,13 @@
 -- The two tables read as a book. The view is total: it gives a book for every value of the tables, so that no contract over them
 -- needs a condition. Counts past their limit are cut to it, a card has 12 to 19 digits, a variable is taken modulo 8.
-use Rattle.std.specs.Prelude.{Bool, not, ◌&&◌, if◌then◌else◌, List, ℕ, suc, min, max, eqb, ltb, get_or}
+use Rattle.std.specs.Prelude.{Bool, not, ◌&&◌, cond, List, ℕ, suc, ◌%◌, min, max, eqb, ltb, get_or}
 use Rattle.model.specs.Limits.{card_limit, rule_limit, group_count, variable_count, price_limit, condition_limit, least_digits, most_digits}
 use Rattle.model.specs.Lists.{within, up_to}
-use Rattle.model.specs.Grammar.{in_group, same_issuer, Rule}
-use Rattle.model.specs.Grammar as model
+use Rattle.model.specs.Grammar.{Name, var, star, Price, Condition, in_group, same_issuer, Rule}
 use Rattle.model.specs.Book.{Book}
-use Rattle.letters.specs.Letters.{variable_said, name_meant}
-use Rattle.letters.specs.declared.names.Variable.{Variable}
-use Rattle.letters.specs.declared.names.Name.{Name}
-use Rattle.letters.specs.declared.names.Name.TheVariants as said
-use Rattle.forms.specs.declared.rules.Price.{Price}
-use Rattle.forms.specs.declared.rules.Condition.{Condition}
-use Rattle.forms.specs.declared.rules.Condition.TheVariants.{InGroup, SameIssuer}
 use Rattle.rulebook.specs.declared.Tables.{Tables}
-use Rattle.rulebook.specs.Layout.{count_place, card_byte, length_place, digit_place, group_place, row_at, owner_place, kind_place, head_place}
-use Rattle.rulebook.specs.Layout.{price_count_place, condition_count_place, price_place, condition_place, entry_at}
+use Rattle.rulebook.specs.Layout.{count_place, card_byte, length_place, digit_place, group_place, row_at, owner_place, kind_place, head_place, price_count_place, condition_count_place}
+use Rattle.rulebook.specs.Layout.{price_giver_place, price_kind_place, price_receiver_place, group_asked_place, first_name_place, second_name_place}
 
 -- ---- cards
 
@@ -48,9 +40,8 @@ row_owner row = get_or row owner_place 0
 abbrev pub row_kind : List ℕ → ℕ
 row_kind row = get_or row kind_place 0
 
--- a variable is taken modulo 8
-abbrev pub row_head : List ℕ → Variable
-row_head row = variable_said (get_or row head_place 0)
+abbrev pub row_head : List ℕ → ℕ
+row_head row = get_or row head_place 0 % variable_count
 
 abbrev pub row_price_count : List ℕ → ℕ
 row_price_count row = min (get_or row price_count_place 0) price_limit
@@ -58,46 +49,44 @@ row_price_count row = min (get_or row price_count_place 0) price_limit
 abbrev pub row_condition_count : List ℕ → ℕ
 row_condition_count row = min (get_or row condition_count_place 0) condition_limit
 
--- the name of a byte: a to h are 0 to 7, `*` any other
-abbrev pub name_at : ℕ → Name
-name_at y = if ltb y variable_count then said.Variable (variable_said y) else said.Owner
+-- price i: its giver's variable, its kind, its receiver's name
+abbrev pub price_giver : List ℕ → ℕ → ℕ
+price_giver row i = get_or row (price_giver_place i) 0 % variable_count
 
--- a price: its giver's variable, its kind, its receiver's name
-abbrev pub price_of : List ℕ → Price
-price_of entry = record { giver = variable_said (get_or entry 0 0); kind = get_or entry 1 0; receiver = name_at (get_or entry 2 0) }
+abbrev pub price_kind : List ℕ → ℕ → ℕ
+price_kind row i = get_or row (price_kind_place i) 0
 
-abbrev pub price_at : List ℕ → ℕ → Price
-price_at row i = price_of (entry_at row (price_place i))
+abbrev pub price_receiver : List ℕ → ℕ → ℕ
+price_receiver row i = get_or row (price_receiver_place i) 0
 
--- a condition: ` = z z` where its group is 0, or ` ? g z`, whose name is the second
-abbrev pub condition_of : List ℕ → Condition
-condition_of entry =
-    let group = get_or entry 0 0 in
-    let second = name_at (get_or entry 2 0) in
-    if eqb group 0 then SameIssuer (name_at (get_or entry 1 0)) second else InGroup group second
+-- condition i: its group, 0 for ` = z z`, and its two names; of ` ? g z` the second is z
+abbrev pub group_asked : List ℕ → ℕ → ℕ
+group_asked row i = get_or row (group_asked_place i) 0
 
-abbrev pub condition_at : List ℕ → ℕ → Condition
-condition_at row i = condition_of (entry_at row (condition_place i))
+abbrev pub first_name : List ℕ → ℕ → ℕ
+first_name row i = get_or row (first_name_place i) 0
 
--- what the definitions mean by them
-abbrev pub price_meant : Price → model.Price
-price_meant p = record { from = p.giver.number; kind = p.kind; to = name_meant p.receiver }
+abbrev pub second_name : List ℕ → ℕ → ℕ
+second_name row i = get_or row (second_name_place i) 0
 
-abbrev pub condition_meant : Condition → model.Condition
-condition_meant (InGroup g z) = in_group g (name_meant z)
-condition_meant (SameIssuer y z) = same_issuer (name_meant y) (name_meant z)
+-- a to h are 0 to 7, `*` any other byte
+unfoldable pub name_view : ℕ → Name
+name_view y = cond (ltb y variable_count) (var y) star
 
-unfoldable pub price_view : List ℕ → ℕ → model.Price
-price_view row i = price_meant (price_at row i)
+unfoldable pub price_view : List ℕ → ℕ → Price
+price_view row i = record { from = price_giver row i; kind = price_kind row i; to = name_view (price_receiver row i) }
 
-unfoldable pub condition_view : List ℕ → ℕ → model.Condition
-condition_view row i = condition_meant (condition_at row i)
+unfoldable pub condition_view : List ℕ → ℕ → Condition
+condition_view row i =
+    cond (eqb (group_asked row i) 0)
+    (same_issuer (name_view (first_name row i)) (name_view (second_name row i)))
+    (in_group (group_asked row i) (name_view (second_name row i)))
 
 unfoldable pub rule_view : List ℕ → Rule
 rule_view row = record {
   owner = row_owner row;
   kind = row_kind row;
-  head = (row_head row).number;
+  head = row_head row;
   prices = up_to (price_view row) (row_price_count row);
   conditions = up_to (condition_view row) (row_condition_count row);
 }

@@ -1,7 +1,7 @@
 // The layout of the two tables: no other file knows an offset. specs/Layout.antt has the same places, specs/View.antt what they mean.
 //
 // Each table is rows of bytes in one array of a fixed size, since the engine has no heap. Row 0 begins with the number of cards, or of
-// rules; row n is card n's, or rule n's. What is read of a table is told for every value of it, and for any number of a card or a rule.
+// rules; row n is card n's, or rule n's. What is read of a table is told for every value of it, and for any number of a card, a rule or an entry.
 // Bytes and no structs: so every value of a table is a book, and no contract over one has a condition (DECISIONS 24). Free functions and
 // no methods: a table is an array, which is what contracts speak of.
 ghost use Rattle.std.specs.List.{count_by};
@@ -13,7 +13,8 @@ ghost use Rattle.forms.specs.Numbers.{digits_in};
 ghost use Rattle.rulebook.specs.Layout.{card_byte, row_at};
 ghost use Rattle.rulebook.specs.View.{card_count, card_length, digit_at, member_view, rule_count};
 ghost use Rattle.rulebook.specs.View.{row_owner, row_kind, row_head, row_price_count, row_condition_count};
-ghost use Rattle.rulebook.specs.View.{name_at, price_of, price_at, condition_of, condition_at};
+ghost use Rattle.rulebook.specs.View.{price_giver, price_kind, price_receiver, group_asked, first_name, second_name};
+ghost use Rattle.rulebook.specs.Rows.{row_head_said, name_at, price_of, price_at, condition_of, condition_at};
 ghost use Rattle.rulebook.specs.inner.Writes.{CardAdded, MemberAdded, RuleAdded};
 ghost use Rattle.rulebook.specs.inner.Rows.{name_byte, price_bytes, condition_bytes, row_of};
 ghost use Rattle.letters.specs.Letters.{variable_said};
@@ -37,7 +38,7 @@ pub type CardTable = [u8; CARD_TABLE_SIZE];
 
 pub type RuleTable = [u8; RULE_TABLE_SIZE];
 
-pub(crate) type RuleRow = [u8; RULE_ROW];
+pub type RuleRow = [u8; RULE_ROW];
 
 // A card's row: how many digits it has, its digits from 0 on, a byte for each group from 1 on.
 const LENGTH: usize = 0;
@@ -63,7 +64,19 @@ pub type Entry = [u8; ENTRY_SIZE];
 
 const PRICES: usize = 5;
 
+const PRICE_GIVER: usize = PRICES;
+
+const PRICE_KIND: usize = PRICES + 1;
+
+const PRICE_RECEIVER: usize = PRICES + 2;
+
 const CONDITIONS: usize = PRICES + limits::PRICE_LIMIT as usize * ENTRY_SIZE;
+
+const GROUP_ASKED: usize = CONDITIONS;
+
+const FIRST_NAME: usize = CONDITIONS + 1;
+
+const SECOND_NAME: usize = CONDITIONS + 2;
 
 const SPARE: usize = CONDITIONS + limits::CONDITION_LIMIT as usize * ENTRY_SIZE;
 
@@ -90,6 +103,13 @@ pub(crate) fn card_length(cards: &CardTable, m: u8) -> u8
     ensures { result ≡ card_length cards.now m }
 {
     card_byte(cards, m, LENGTH).clamp(limits::LEAST_DIGITS, limits::MOST_DIGITS)
+}
+
+// Digit d of card m, from 0.
+pub fn digit_at(cards: &CardTable, m: u8, d: u8) -> u8
+    ensures { result ≡ digit_at cards.now m d }
+{
+    card_byte(cards, m, DIGITS + usize::from(d))
 }
 
 // The places for card m's digits, of which it has as many as its length says; past the last card, the last row's.
@@ -152,10 +172,10 @@ pub fn rule_count(rules: &RuleTable) -> u8
     rules[COUNT].min(limits::RULE_LIMIT)
 }
 
-// A rule's row. Each part has a method of its name, though some differ in a place alone: no other file knows one, or can ask for another.
+// A rule's row. Each part has a method of its name, though some differ in a place alone: no other file knows one.
 #[derive(Clone, Copy)]
 pub struct Row<'a> {
-    bytes: &'a RuleRow,
+    pub bytes: &'a RuleRow,
 }
 
 // The row of rule n; past the last, the last row.
@@ -173,27 +193,30 @@ impl<'a> Row<'a> {
     pub fn owner(self) -> u8
         ensures { result ≡ row_owner self.entry.bytes.now }
     {
-        self.bytes[OWNER]
+        let bytes = self.bytes;
+        owner(bytes)
     }
 
     pub fn kind(self) -> u8
         ensures { result ≡ row_kind self.entry.bytes.now }
     {
-        self.bytes[KIND]
+        let bytes = self.bytes;
+        kind(bytes)
     }
 
     pub fn head(self) -> Variable
-        ensures { result ≡ row_head self.entry.bytes.now }
+        ensures { result ≡ row_head_said self.entry.bytes.now }
     {
-        variable_of(self.bytes[HEAD])
+        let bytes = self.bytes;
+        variable_of(head(bytes))
     }
 
     // Its prices, each read by `price_of`.
     pub fn prices(self) -> &'a [Entry]
         ensures { map price_of result.now ≡ up_to (price_at self.entry.bytes.now) (row_price_count self.entry.bytes.now) }
     {
-        let n = self.bytes[PRICE_COUNT].min(limits::PRICE_LIMIT);
         let bytes = self.bytes;
+        let n = price_count(bytes);
         let (entries, _) = bytes[PRICES..].as_chunks::<ENTRY_SIZE>();
         &entries[..usize::from(n)]
     }
@@ -202,12 +225,86 @@ impl<'a> Row<'a> {
     pub fn conditions(self) -> &'a [Entry]
         ensures { map condition_of result.now ≡ up_to (condition_at self.entry.bytes.now) (row_condition_count self.entry.bytes.now) }
     {
-        let n = self.bytes[CONDITION_COUNT].min(limits::CONDITION_LIMIT);
         let bytes = self.bytes;
+        let n = condition_count(bytes);
         let (entries, _) = bytes[CONDITIONS..].as_chunks::<ENTRY_SIZE>();
         &entries[..usize::from(n)]
     }
 }
+
+// ---- a rule's row read byte by byte: of any bytes, and of an entry of any number
+
+pub fn owner(row: &[u8]) -> u8
+    ensures { result ≡ row_owner row.now }
+{
+    ascii::byte(row, OWNER)
+}
+
+pub fn kind(row: &[u8]) -> u8
+    ensures { result ≡ row_kind row.now }
+{
+    ascii::byte(row, KIND)
+}
+
+pub fn head(row: &[u8]) -> u8
+    ensures { (result ≡ row_head row.now) × (result < 8) }
+{
+    ascii::byte(row, HEAD) % limits::VARIABLE_COUNT
+}
+
+pub fn price_count(row: &[u8]) -> u8
+    ensures { result ≡ row_price_count row.now }
+{
+    ascii::byte(row, PRICE_COUNT).min(limits::PRICE_LIMIT)
+}
+
+pub fn condition_count(row: &[u8]) -> u8
+    ensures { result ≡ row_condition_count row.now }
+{
+    ascii::byte(row, CONDITION_COUNT).min(limits::CONDITION_LIMIT)
+}
+
+// Price i, from 0: the giver's variable, the kind, the receiver's name.
+
+pub fn price_giver(row: &[u8], i: u8) -> u8
+    ensures { (result ≡ price_giver row.now i) × (result < 8) }
+{
+    ascii::byte(row, PRICE_GIVER + usize::from(i) * ENTRY_SIZE) % limits::VARIABLE_COUNT
+}
+
+pub fn price_kind(row: &[u8], i: u8) -> u8
+    ensures { result ≡ price_kind row.now i }
+{
+    ascii::byte(row, PRICE_KIND + usize::from(i) * ENTRY_SIZE)
+}
+
+pub fn price_receiver(row: &[u8], i: u8) -> u8
+    ensures { result ≡ price_receiver row.now i }
+{
+    ascii::byte(row, PRICE_RECEIVER + usize::from(i) * ENTRY_SIZE)
+}
+
+// Condition i, from 0: the group and two names.
+
+pub fn group_asked(row: &[u8], i: u8) -> u8
+    ensures { result ≡ group_asked row.now i }
+{
+    ascii::byte(row, GROUP_ASKED + usize::from(i) * ENTRY_SIZE)
+}
+
+pub fn first_name(row: &[u8], i: u8) -> u8
+    ensures { result ≡ first_name row.now i }
+{
+    ascii::byte(row, FIRST_NAME + usize::from(i) * ENTRY_SIZE)
+}
+
+pub fn second_name(row: &[u8], i: u8) -> u8
+    ensures { result ≡ second_name row.now i }
+{
+    ascii::byte(row, SECOND_NAME + usize::from(i) * ENTRY_SIZE)
+}
+
+// ---- an entry read
 
 pub fn price_of(entry: &Entry) -> Price
     ensures { result ≡ price_of entry.now }

@@ -14,10 +14,10 @@ use answers::{Reason, Refusal};
 fn take_line(line: &[u8], tables: &mut Tables) -> Result<(), Reason>
     ensures { LineTaken line.now tables.old result tables.new }
 {
-    match line {
-        [b'C', ..] => cards::take(line, &mut tables.cards),
-        [b'G', ..] => groups::take(line, &mut tables.cards),
-        [b'R', ..] => rules::take(line, layout::card_count(&tables.cards), &mut tables.rules),
+    match ascii::byte(line, 0) {
+        b'C' => cards::take(line, &mut tables.cards),
+        b'G' => groups::take(line, &mut tables.cards),
+        b'R' => rules::take(line, layout::card_count(&tables.cards), &mut tables.rules),
         _ => Err(Reason::NoForm),
     }
 }

@@ -10,22 +10,20 @@ mod passing;
 mod ring;
 mod tell;
 
-use std::io;
-
-fn main(rt: HostRuntime) -> io::Result<()> {
-    issuing::questions(&rt)?;
-    issuing::sums(&rt)?;
-    ring::settles(&rt)?;
-    ring::sizes(&rt)?;
-    ring::transfers(&rt)?;
-    ring::records(&rt)?;
-    ring::swaps(&rt)?;
-    ring::asked_twice(&rt)?;
-    ring::supplied(&rt)?;
-    ring::other_order(&rt)?;
-    passing::orders(&rt)?;
-    passing::amounts(&rt)?;
-    passing::rings(&rt)?;
-    passing::limits(&rt)?;
+fn main(rt: HostRuntime) {
+    issuing::questions(&rt);
+    issuing::sums(&rt);
+    ring::settles(&rt);
+    ring::sizes(&rt);
+    ring::transfers(&rt);
+    ring::records(&rt);
+    ring::swaps(&rt);
+    ring::asked_twice(&rt);
+    ring::supplied(&rt);
+    ring::other_order(&rt);
+    passing::orders(&rt);
+    passing::amounts(&rt);
+    passing::rings(&rt);
+    passing::limits(&rt);
     large::settlements(&rt)
 }

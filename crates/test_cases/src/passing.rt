@@ -2,7 +2,6 @@
 use crate::{free, tell};
 use accounts::Account;
 use engine::Engine;
-use std::io;
 
 // Cards 1 to 3 give A, and card 4 gives B.
 fn open() -> Engine {
@@ -13,12 +12,7 @@ fn open() -> Engine {
     .engine
 }
 
-fn settle(
-    rt: &impl Print,
-    label: &str,
-    engine: Engine,
-    exchange: &[[u8; 3]],
-) -> io::Result<Engine> {
+fn settle(rt: &impl Print, label: &str, engine: Engine, exchange: &[[u8; 3]]) -> Engine {
     let proof = free::proof(exchange);
     let records = &proof[..exchange.len().min(proof.len())];
     tell::settle(
@@ -30,20 +24,20 @@ fn settle(
     )
 }
 
-pub(crate) fn orders(rt: &impl Print) -> io::Result<()> {
-    let holding = tell::calls(rt, open(), &[("an A for card 1", "I 1 1 1")])?;
+pub(crate) fn orders(rt: &impl Print) {
+    let holding = tell::calls(rt, open(), &[("an A for card 1", "I 1 1 1")]);
     settle(
         rt,
         "gift after its receipt",
         holding,
         &[[1, 1, 2], [2, 1, 3]],
-    )?;
+    );
     let e = settle(
         rt,
         "gift before its receipt",
         holding,
         &[[2, 1, 3], [1, 1, 2]],
-    )?;
+    );
     tell::calls(
         rt,
         e,
@@ -52,11 +46,10 @@ pub(crate) fn orders(rt: &impl Print) -> io::Result<()> {
             ("card 2's kind A", "H 2 1"),
             ("card 3's kind A", "H 3 1"),
         ],
-    )?;
-    Ok(())
+    );
 }
 
-pub(crate) fn amounts(rt: &impl Print) -> io::Result<()> {
+pub(crate) fn amounts(rt: &impl Print) {
     let holding = tell::calls(
         rt,
         open(),
@@ -64,45 +57,43 @@ pub(crate) fn amounts(rt: &impl Print) -> io::Result<()> {
             ("an A for card 1", "I 1 1 1"),
             ("a B for card 4", "I 4 2 1"),
         ],
-    )?;
+    );
     let twice = [[1, 1, 2], [2, 1, 3], [2, 1, 3]];
-    settle(rt, "one receipt passed on twice", holding, &twice)?;
+    settle(rt, "one receipt passed on twice", holding, &twice);
     settle(
         rt,
         "receipt of another kind",
         holding,
         &[[4, 2, 2], [2, 1, 3]],
-    )?;
+    );
     settle(
         rt,
         "receipt of another card",
         holding,
         &[[1, 1, 3], [2, 1, 3]],
-    )?;
-    let more = tell::calls(rt, holding, &[("an A for card 2", "I 2 1 1")])?;
-    settle(rt, "one receipt and one held, passed on", more, &twice)?;
-    Ok(())
+    );
+    let more = tell::calls(rt, holding, &[("an A for card 2", "I 2 1 1")]);
+    settle(rt, "one receipt and one held, passed on", more, &twice);
 }
 
-pub(crate) fn rings(rt: &impl Print) -> io::Result<()> {
+pub(crate) fn rings(rt: &impl Print) {
     let e = settle(
         rt,
         "round a ring in which nobody holds it",
         open(),
         &[[1, 1, 2], [2, 1, 3], [3, 1, 1]],
-    )?;
+    );
     tell::calls(
         rt,
         e,
         &[("card 1's kind A", "H 1 1"), ("card 2's kind A", "H 2 1")],
-    )?;
+    );
     settle(
         rt,
         "round the ring, and one gift more",
         e,
         &[[1, 1, 2], [2, 1, 3], [3, 1, 1], [1, 1, 2]],
-    )?;
-    Ok(())
+    );
 }
 
 // An engine that no calls make: card 1 holds one A and card 2 so many.
@@ -113,7 +104,7 @@ fn holding(count: u32) -> Engine {
     engine
 }
 
-pub(crate) fn limits(rt: &impl Print) -> io::Result<()> {
+pub(crate) fn limits(rt: &impl Print) {
     let most = holding(1_000_000_000);
     let beyond = holding(u32::MAX);
     let passed_on = [[1, 1, 2], [2, 1, 3]];
@@ -122,9 +113,8 @@ pub(crate) fn limits(rt: &impl Print) -> io::Result<()> {
         "receipt of a card at the limit, passed on",
         most,
         &passed_on,
-    )?;
-    settle(rt, "receipt of a card at the limit", most, &[[1, 1, 2]])?;
-    settle(rt, "receipt beyond 32 bits, passed on", beyond, &passed_on)?;
-    settle(rt, "beyond 32 bits, and not covered", beyond, &[[3, 1, 2]])?;
-    Ok(())
+    );
+    settle(rt, "receipt of a card at the limit", most, &[[1, 1, 2]]);
+    settle(rt, "receipt beyond 32 bits, passed on", beyond, &passed_on);
+    settle(rt, "beyond 32 bits, and not covered", beyond, &[[3, 1, 2]]);
 }

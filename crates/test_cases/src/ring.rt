@@ -2,7 +2,6 @@
 use crate::tell;
 use accounts::Account;
 use engine::Engine;
-use std::io;
 
 // 1 A 2, 2 B 3, 3 C 1, by the rules 1, 2, 3
 const EXCHANGE: [u8; 9] = [1, 1, 2, 2, 2, 3, 3, 3, 1];
@@ -21,12 +20,12 @@ fn holding_engine() -> Engine {
 }
 
 // The ring's settlement.
-fn settle(rt: &impl Print, label: &str, engine: Engine) -> io::Result<Engine> {
+fn settle(rt: &impl Print, label: &str, engine: Engine) -> Engine {
     tell::settle(rt, label, engine, &EXCHANGE, &PROOF)
 }
 
-pub(crate) fn settles(rt: &impl Print) -> io::Result<()> {
-    let e = settle(rt, "the ring", holding_engine())?;
+pub(crate) fn settles(rt: &impl Print) {
+    let e = settle(rt, "the ring", holding_engine());
     tell::calls(
         rt,
         e,
@@ -36,29 +35,26 @@ pub(crate) fn settles(rt: &impl Print) -> io::Result<()> {
             ("card 2's kind A", "H 2 1"),
             ("card 3's kind C", "H 3 3"),
         ],
-    )?;
-    settle(rt, "the ring again", e)?;
-    tell::calls(rt, e, &[("card 1's kind A still", "H 1 1")])?;
-    Ok(())
+    );
+    settle(rt, "the ring again", e);
+    tell::calls(rt, e, &[("card 1's kind A still", "H 1 1")]);
 }
 
 // A settlement while the cards hold what the ring asks of them.
-fn ask(rt: &impl Print, label: &str, exchange: &[u8], proof: &[u8]) -> io::Result<()> {
-    tell::settle(rt, label, holding_engine(), exchange, proof)?;
-    Ok(())
+fn ask(rt: &impl Print, label: &str, exchange: &[u8], proof: &[u8]) {
+    tell::settle(rt, label, holding_engine(), exchange, proof);
 }
 
 // The ring's exchange with each proof.
-fn with_proofs(rt: &impl Print, rows: &[(&str, &[u8])]) -> io::Result<()> {
+fn with_proofs(rt: &impl Print, rows: &[(&str, &[u8])]) {
     for (label, proof) in rows {
-        ask(rt, label, &EXCHANGE, proof)?;
+        ask(rt, label, &EXCHANGE, proof);
     }
-    Ok(())
 }
 
-pub(crate) fn sizes(rt: &impl Print) -> io::Result<()> {
-    ask(rt, "exchange empty", b"", &PROOF)?;
-    ask(rt, "exchange of 8 bytes", &EXCHANGE[..8], &PROOF)?;
+pub(crate) fn sizes(rt: &impl Print) {
+    ask(rt, "exchange empty", b"", &PROOF);
+    ask(rt, "exchange of 8 bytes", &EXCHANGE[..8], &PROOF);
     with_proofs(
         rt,
         &[
@@ -67,10 +63,9 @@ pub(crate) fn sizes(rt: &impl Print) -> io::Result<()> {
             ("proof of 3,072 bytes", &[0; 3_072]),
             ("proof of 3,060 bytes of zero", &[0; 3_060]),
         ],
-    )?;
-    ask(rt, "exchange of 99 bytes", &[0; 99], &PROOF)?;
-    settle(rt, "engine without cards", engine::open(b"").engine)?;
-    Ok(())
+    );
+    ask(rt, "exchange of 99 bytes", &[0; 99], &PROOF);
+    settle(rt, "engine without cards", engine::open(b"").engine);
 }
 
 // The bytes with one of them changed.
@@ -83,22 +78,20 @@ fn changed<const N: usize>(bytes: [u8; N], at: usize, byte: u8) -> [u8; N] {
 }
 
 // Each with one byte of the ring's exchange changed.
-fn in_exchange(rt: &impl Print, rows: &[(&str, usize, u8)]) -> io::Result<()> {
+fn in_exchange(rt: &impl Print, rows: &[(&str, usize, u8)]) {
     for (label, at, byte) in rows {
-        ask(rt, label, &changed(EXCHANGE, *at, *byte), &PROOF)?;
+        ask(rt, label, &changed(EXCHANGE, *at, *byte), &PROOF);
     }
-    Ok(())
 }
 
 // Each with one byte of its proof changed. Of one function for both, each row's bytes would be given twice: to change, and as they are.
-fn in_proof(rt: &impl Print, rows: &[(&str, usize, u8)]) -> io::Result<()> {
+fn in_proof(rt: &impl Print, rows: &[(&str, usize, u8)]) {
     for (label, at, byte) in rows {
-        ask(rt, label, &EXCHANGE, &changed(PROOF, *at, *byte))?;
+        ask(rt, label, &EXCHANGE, &changed(PROOF, *at, *byte));
     }
-    Ok(())
 }
 
-pub(crate) fn transfers(rt: &impl Print) -> io::Result<()> {
+pub(crate) fn transfers(rt: &impl Print) {
     in_exchange(
         rt,
         &[
@@ -111,7 +104,7 @@ pub(crate) fn transfers(rt: &impl Print) -> io::Result<()> {
     )
 }
 
-pub(crate) fn records(rt: &impl Print) -> io::Result<()> {
+pub(crate) fn records(rt: &impl Print) {
     in_proof(
         rt,
         &[
@@ -137,9 +130,9 @@ pub(crate) fn records(rt: &impl Print) -> io::Result<()> {
     )
 }
 
-pub(crate) fn swaps(rt: &impl Print) -> io::Result<()> {
-    ask(rt, "P9", &[2, 2, 1], b"\0\x01\x04\0\x01\0\0\0\0\0\0\0")?;
-    ask(rt, "P10", &[1, 1, 2], b"\0\x01\x01\0\x02\x01\0\0\0\0\0\0")?;
+pub(crate) fn swaps(rt: &impl Print) {
+    ask(rt, "P9", &[2, 2, 1], b"\0\x01\x04\0\x01\0\0\0\0\0\0\0");
+    ask(rt, "P10", &[1, 1, 2], b"\0\x01\x01\0\x02\x01\0\0\0\0\0\0");
     ask(
         rt,
         "P6",
@@ -147,13 +140,12 @@ pub(crate) fn swaps(rt: &impl Print) -> io::Result<()> {
         b"\x02\x01\x05\0\x02\x01\0\0\0\0\0\0\
           \x03\x02\x06\0\x03\x02\0\0\0\0\0\0\
           \0\x03\x04\0\x03\0\0\0\0\0\0\0",
-    )?;
-    settle(rt, "ring not covered", tell::open())?;
-    Ok(())
+    );
+    settle(rt, "ring not covered", tell::open());
 }
 
 // P6 with a second 3 D 2: what is asked twice occurs twice.
-pub(crate) fn asked_twice(rt: &impl Print) -> io::Result<()> {
+pub(crate) fn asked_twice(rt: &impl Print) {
     let holding = tell::calls(
         rt,
         tell::open(),
@@ -162,7 +154,7 @@ pub(crate) fn asked_twice(rt: &impl Print) -> io::Result<()> {
             ("card 2's B for P7", "I 2 2 1"),
             ("card 3's D for P7", "I 3 4 2"),
         ],
-    )?;
+    );
     let e = tell::settle(
         rt,
         "P7",
@@ -172,13 +164,12 @@ pub(crate) fn asked_twice(rt: &impl Print) -> io::Result<()> {
           \x03\x02\x06\0\x03\x02\0\0\0\0\0\0\
           \x04\x03\x04\0\x03\0\0\0\0\0\0\0\
           \0\x04\x05\0\x02\x02\0\0\0\0\0\0",
-    )?;
-    tell::calls(rt, e, &[("card 2's kind D", "H 2 4")])?;
-    Ok(())
+    );
+    tell::calls(rt, e, &[("card 2's kind D", "H 2 4")]);
 }
 
 // P8, by the rules 7, 8, 4, 5: card 2 gives the D that card 3 gives it.
-fn settle_supplied(rt: &impl Print, label: &str, engine: Engine) -> io::Result<Engine> {
+fn settle_supplied(rt: &impl Print, label: &str, engine: Engine) -> Engine {
     tell::settle(
         rt,
         label,
@@ -191,7 +182,7 @@ fn settle_supplied(rt: &impl Print, label: &str, engine: Engine) -> io::Result<E
     )
 }
 
-pub(crate) fn supplied(rt: &impl Print) -> io::Result<()> {
+pub(crate) fn supplied(rt: &impl Print) {
     let without = tell::calls(
         rt,
         tell::open(),
@@ -199,10 +190,10 @@ pub(crate) fn supplied(rt: &impl Print) -> io::Result<()> {
             ("card 1's A for P8", "I 1 1 1"),
             ("card 2's B for P8", "I 2 2 1"),
         ],
-    )?;
-    settle_supplied(rt, "P8 while nobody holds D", without)?;
-    let holding = tell::calls(rt, without, &[("card 3's D for P8", "I 3 4 1")])?;
-    let e = settle_supplied(rt, "P8", holding)?;
+    );
+    settle_supplied(rt, "P8 while nobody holds D", without);
+    let holding = tell::calls(rt, without, &[("card 3's D for P8", "I 3 4 1")]);
+    let e = settle_supplied(rt, "P8", holding);
     tell::calls(
         rt,
         e,
@@ -211,12 +202,11 @@ pub(crate) fn supplied(rt: &impl Print) -> io::Result<()> {
             ("card 2's kind D", "H 2 4"),
             ("card 3's kind D", "H 3 4"),
         ],
-    )?;
-    Ok(())
+    );
 }
 
 // The ring's records at 1, 5 and 3, with records between them that nobody may read.
-pub(crate) fn other_order(rt: &impl Print) -> io::Result<()> {
+pub(crate) fn other_order(rt: &impl Print) {
     ask(
         rt,
         "another order with records off the chain",

@@ -2,7 +2,6 @@
 use answers::Reply;
 use commands::Command;
 use engine::{Called, Engine};
-use std::io;
 
 // 01's book.
 pub(crate) fn open() -> Engine {
@@ -10,11 +9,12 @@ pub(crate) fn open() -> Engine {
 }
 
 // Handle and label are two parameters: a struct of both would be made anew for each label.
-fn tell(rt: &impl Print, label: &str, reply: Reply) -> io::Result<()> {
+fn tell(rt: &impl Print, label: &str, reply: Reply) {
     let mut out = [0; commands::ANSWER_SIZE];
     let count = commands::put_reply(reply, &mut out);
-    print!(rt; "{label}: ")?;
-    rt.write_all(&out[..count])
+    // What cannot be written ends nothing: the lines after it are still tried.
+    let _ = print!(rt; "{label}: ");
+    let _ = rt.write_all(&out[..count]);
 }
 
 pub(crate) fn settle(
@@ -23,10 +23,10 @@ pub(crate) fn settle(
     engine: Engine,
     exchange: &[u8],
     proof: &[u8],
-) -> io::Result<Engine> {
+) -> Engine {
     let called = engine::settle(engine, exchange, proof);
-    tell(rt, label, called.reply)?;
-    Ok(called.engine)
+    tell(rt, label, called.reply);
+    called.engine
 }
 
 // The call of a command line, if it is one on an account.
@@ -40,13 +40,13 @@ fn call(engine: Engine, line: &str) -> Option<Called> {
 }
 
 // The calls of labelled command lines, one after the other.
-pub(crate) fn calls(rt: &impl Print, engine: Engine, lines: &[(&str, &str)]) -> io::Result<Engine> {
+pub(crate) fn calls(rt: &impl Print, engine: Engine, lines: &[(&str, &str)]) -> Engine {
     let mut next = engine;
     for (label, line) in lines {
         if let Some(called) = call(next, line) {
-            tell(rt, label, called.reply)?;
+            tell(rt, label, called.reply);
             next = called.engine;
         }
     }
-    Ok(next)
+    next
 }

@@ -3,6 +3,7 @@ ghost use Rattle.std.specs.Prelude.{◌≤◌, length};
 
 use crate::fairness::{self, Exchange, Transfer};
 use accounts::Account;
+use answers::{Reason, Refusal};
 use engine::Engine;
 use std::alloc::{AllocError, Global};
 
@@ -45,15 +46,15 @@ impl From<Transfer> for [u8; 3] {
 }
 
 impl Question<'_> {
-    // The place of the refusal of these records, one for each transfer, if they are refused.
-    fn refused_at(&self, proof: &[[u8; 12]; 3]) -> Option<u32> {
+    // The refusal of these records, one for each transfer, if they are refused.
+    fn refusal(&self, proof: &[[u8; 12]; 3]) -> Option<Refusal> {
         let records = &proof[..self.exchange.len()];
         let called = engine::settle(
             self.engine,
             self.exchange.as_flattened(),
             records.as_flattened(),
         );
-        called.reply.err().map(|refusal| refusal.place)
+        called.reply.err()
     }
 
     // Whether some choice of the record with this index and of the later ones settles the exchange.
@@ -68,16 +69,22 @@ impl Question<'_> {
         } else {
             record + 1
         };
-        // A loop, as in `fairness`: where the recursion goes through a closure, it stays open that the closure may be called at each turn.
-        for (rule, b) in (1..=8).flat_map(|rule| (0..=3).map(move |b| (rule, b))) {
-            let mut chosen = proof;
-            chosen[which] = [next, record, rule, 0, *a, b, 0, 0, 0, 0, 0, 0];
-            match self.refused_at(&chosen) {
-                None => return true,
+        // Loops, as in `fairness`: where the recursion goes through a closure, it stays open that the closure may be called at each turn.
+        'rules: for rule in 1..=8 {
+            for b in 0..=3 {
+                let mut chosen = proof;
+                chosen[which] = [next, record, rule, 0, *a, b, 0, 0, 0, 0, 0, 0];
+                let Some(refusal) = self.refusal(&chosen) else {
+                    return true;
+                };
+                // where no card can help the rule, the next choice is the next rule's
+                if refusal == Reason::WrongRule.at(u32::from(record)) {
+                    continue 'rules;
+                }
                 // a refusal at a later record says that this one is good
-                Some(place) if place > u32::from(record) && self.settles(which + 1, chosen) =>
-                    return true,
-                Some(_) => {}
+                if u32::from(record) < refusal.place && self.settles(which + 1, chosen) {
+                    return true;
+                }
             }
         }
         false

@@ -16,5 +16,9 @@ fn main(rt: HostRuntime) -> io::Result<()> {
         .iter()
         .filter(|verdict| verdict.fair != verdict.settled)
         .count();
-    println!(rt; "family: {exchanges} exchanges, {fair} fair, {disagreements} disagreements")
+    // What cannot be written ends nothing.
+    let _ = println!(rt;
+        "family: {exchanges} exchanges, {fair} fair, {disagreements} disagreements"
+    );
+    Ok(())
 }

@@ -13,7 +13,7 @@ use Rattle.forms.specs.declared.rules.Price.{Price}
 use Rattle.forms.specs.declared.rules.Condition.{Condition}
 use Rattle.forms.specs.declared.rules.Condition.TheVariants.{InGroup, SameIssuer}
 use Rattle.rulebook.specs.View.{card_count, digit_at, member_view, row_owner, row_head, row_price_count, row_condition_count}
-use Rattle.rulebook.specs.View.{price_at, condition_at}
+use Rattle.rulebook.specs.Rows.{price_at, condition_at}
 
 -- 0, 1, .., n - 1
 abbrev pub below : ℕ → List ℕ
@@ -44,7 +44,7 @@ abbrev pub in_condition : List ℕ → ℕ → ℕ → Bool
 in_condition row v i = is_named v (condition_at row i)
 
 unfoldable pub in_rule : List ℕ → ℕ → Bool
-in_rule row v = eqb v (row_head row).number || (any (in_price row v) (below (row_price_count row)) || any (in_condition row v) (below (row_condition_count row)))
+in_rule row v = eqb v (row_head row) || (any (in_price row v) (below (row_price_count row)) || any (in_condition row v) (below (row_condition_count row)))
 
 -- the marks of a to h before and after the variables that pass the test are marked
 pub record Marks (p : ℕ → Bool) (before after : List Bool) : Type 0 where
@@ -63,7 +63,7 @@ variable_fits n row r v = cond (in_rule row v) (within (cards r v) n) (eqb (card
 -- the question itself; the claimed transfer has the given receiver
 unfoldable pub cards_fit : ℕ → List ℕ → List ℕ → ℕ → Bool
 cards_fit n row r receiver =
-    (eqb (get_or r 3 0) 0 && eqb (cards r (row_head row).number) receiver) && every (variable_fits n row r) (below variable_count)
+    (eqb (get_or r 3 0) 0 && eqb (cards r (row_head row)) receiver) && every (variable_fits n row r) (below variable_count)
 
 -- ---- question 18
 

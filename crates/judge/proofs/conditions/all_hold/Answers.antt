@@ -3,7 +3,8 @@ use borrow.Author.Rules.{rules}
 use mathlib.Core.Path.{◌∙◌}
 use Rattle.std.proofs.lemmas.Iterator.{YieldsList-from_slice}
 use Rattle.std.proofs.lemmas.Iterator.Search.{all_from_yields_List}
-use Rattle.rulebook.specs.View.{condition_of, condition_at, row_condition_count}
+use Rattle.rulebook.specs.View.{row_condition_count}
+use Rattle.rulebook.specs.Rows.{condition_of, condition_at}
 use Rattle.judge.specs.inner.Rows.{condition_holds}
 use Rattle.judge.proofs.Entries.{entries_all}
 use Rattle.judge.proofs.conditions.all_hold.Goals as goal

@@ -5,7 +5,8 @@ use Rattle.std.proofs.lemmas.Iterator.{YieldsList-from_slice}
 use Rattle.std.proofs.lemmas.Iterator.Search.{all_from_yields_List}
 use Rattle.model.specs.Fairness.{is_payable}
 use Rattle.model.proofs.Loops.{every_places}
-use Rattle.rulebook.specs.View.{price_of, price_at, row_price_count}
+use Rattle.rulebook.specs.View.{row_price_count}
+use Rattle.rulebook.specs.Rows.{price_of, price_at}
 use Rattle.judge.specs.inner.Rows.{asked_by, price_asked}
 use Rattle.judge.proofs.Entries.{entries_all}
 use Rattle.judge.proofs.prices.all_payable.Goals as goal

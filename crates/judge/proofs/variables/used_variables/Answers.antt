@@ -3,7 +3,8 @@ use native.Mathlib.Omega.{arith}
 use mathlib.Core.Path.{◌≡◌, refl, ◌∙◌}
 use mathlib.Core.List.{[]}
 use lib.ListN.{length}
-use Rattle.rulebook.specs.View.{price_of, price_at, row_price_count, condition_of, condition_at, row_condition_count}
+use Rattle.rulebook.specs.View.{row_price_count, row_condition_count}
+use Rattle.rulebook.specs.Rows.{price_of, price_at, condition_of, condition_at}
 use Rattle.judge.specs.inner.Rows.{in_price, in_condition}
 use Rattle.judge.proofs.Entries.{entries_long, entry_is}
 use Rattle.judge.proofs.Marking.{marks_more, marks_both, rule_marks}

@@ -1,5 +1,5 @@
 -- Each return is one case of the questions; what was asked before it is known from the branches that led there.
-use mathlib.Core.Path.{◌≡◌, sym, ◌∙◌, ap}
+use mathlib.Core.Path.{◌≡◌, sym, ◌∙◌, ap, ap₂}
 use mathlib.Core.Bool.{true, false, not}
 use mathlib.Core.List.{List}
 use Prim.Native.Nat.{ℕ, ◌<◌}
@@ -43,7 +43,7 @@ asked c = ap is_number_in (sym (read c).1) ∙ number_is (card_of c)
 -- what question 4 gives of a line
 module _ (line : CardLine) (why : Reason) where
   abbrev Said : CardNumber → Type 0
-  Said n = T (is_number_in line) × (digits_in n ≡ take line.count line.digits)
+  Said n = T (is_number_in line) × ((n.count ≡ line.count) × (n.digits ≡ line.digits))
 
   given : (o : Option CardNumber) (n : CardNumber) → MatchOption o (T (not (is_number_in line))) Said → Ok n ≡ ok_or o why → Said n
   given None n h e = cc
@@ -63,8 +63,11 @@ module _ (c : In_ok-number) where
   numbered : is_card_number (card_of at) ≡ true
   numbered = sym (asked at) ∙ T-eq _ said.0
 
+  same : digits_in c.in_ok-number.number ≡ take at.in_ok-line.line.count at.in_ok-line.line.digits
+  same = ap₂ {C = List ℕ} take said.1.0 said.1.1
+
   digits : digits_in c.in_ok-number.number ≡ card_of at
-  digits = rw (← (read at).1) at said.1 ∙ in_row_lem (card_of at) (number_size (card_of at) numbered).1
+  digits = rw (← (read at).1) at same ∙ in_row_lem (card_of at) (number_size (card_of at) numbered).1
 
 -- ---- the goals
 pub returns-then-card_count-ge-CARD_LIMIT : goal.returns-then-card_count-ge-CARD_LIMIT

@@ -1,7 +1,6 @@
 -- By the first letter, one law for each form.
 use native.Mathlib.Omega.{arith}
 use borrow.Author.Rules.{rules}
-use Rattle.letters.proofs.Numbers.{inside}
 use Rattle.rulebook.proofs.Lines.{card-line, group-line, rule-line, no_line}
 use Rattle.rulebook.proofs.text.take_line.Goals as goal
 
@@ -15,9 +14,4 @@ pub returns-in-82 : goal.returns-in-82
 returns-in-82 c = rule-line (search rules) (rw c.card_count.ensures at c.take-in-82.ensures)
 
 pub returns-in_default : goal.returns-in_default
-returns-in_default c =
-    let w = c.args.line.now in
-    no_line (λ x. let i = inside w 0 (omega arith) in omega arith) (λ x. let i = inside w 0 (omega arith) in omega arith) (λ x. let i = inside w 0 (omega arith) in omega arith)
-
-pub returns-in_default-2 : goal.returns-in_default-2
-returns-in_default-2 c = no_line (λ x. grind arith) (λ x. grind arith) (λ x. grind arith)
+returns-in_default c = no_line (λ x. grind arith) (λ x. grind arith) (λ x. grind arith)

@@ -8,14 +8,14 @@ use Prim.Native.Nat.{ℕ, ◌≤◌, ◌<◌}
 use native.Mathlib.Omega.{arith}
 use borrow.Author.Tests.{le-leb, lt-leb}
 use borrow.Author.Rules.{rules}
-use lib.ListN.{length, take}
+use lib.ListN.{length}
 use lib.Dec.{T}
 use Rattle.std.specs.Prelude.{MatchOption}
 use Rattle.std.specs.Bool.{then_some}
 use lib.Seq.{length-take-le}
 use Rattle.model.specs.Limits.{least_digits, most_digits}
 use Rattle.model.proofs.Tests.{eq-T, lt_or_ge}
-use Rattle.forms.specs.Numbers.{is_number_in, digits_in}
+use Rattle.forms.specs.Numbers.{is_number_in}
 use Rattle.forms.proofs.Parts.{chosen_where}
 use Rattle.forms.proofs.cards.CardLine.number.Goals as goal
 
@@ -43,6 +43,6 @@ returns c =
     let enough : least_digits ≤ n.count = search rules in
     let same : is_number_in n ≡ c.checks.result = rw (length-take-le n.count n.digits (omega (arith, few, l))) (search (rules, le-leb, lt-leb)) in
     let number : (f : n.count ≤ most_digits)
-    → MatchOption (then_some c.checks.result (numbered n.count n.digits f)) (T (not (is_number_in n))) (λ m. T (is_number_in n) × (digits_in m ≡ take n.count n.digits))
-    = λ f. chosen_where _ c.checks.result (numbered n.count n.digits f) (λ e. rw (same ∙ e) tt) (λ e. (eq-T (same ∙ e), refl)) in
+    → MatchOption (then_some c.checks.result (numbered n.count n.digits f)) (T (not (is_number_in n))) (λ m. T (is_number_in n) × ((m.count ≡ n.count) × (m.digits ≡ n.digits)))
+    = λ f. chosen_where _ c.checks.result (numbered n.count n.digits f) (λ e. rw (same ∙ e) tt) (λ e. (eq-T (same ∙ e), (refl, refl))) in
     rw c.then_some.ensures (number _)

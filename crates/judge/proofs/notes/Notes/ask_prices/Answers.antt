@@ -3,7 +3,8 @@ use mathlib.Core.Path.{◌≡◌, refl, ◌∙◌, ap}
 use mathlib.Core.List.{[]}
 use native.Mathlib.Omega.{arith}
 use lib.ListN.{length}
-use Rattle.rulebook.specs.View.{price_of, price_at, row_price_count}
+use Rattle.rulebook.specs.View.{row_price_count}
+use Rattle.rulebook.specs.Rows.{price_of, price_at}
 use Rattle.judge.specs.inner.Rows.{asked_by}
 use Rattle.judge.proofs.Entries.{entries_long, entry_is}
 use Rattle.judge.proofs.Noting.{asked_none, asked_room, asked_more}

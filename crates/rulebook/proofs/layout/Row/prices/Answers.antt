@@ -1,9 +1,13 @@
 -- The chunks from the prices' place on.
 use borrow.Author.Rules.{rules}
 use native.Mathlib.Omega.{arith}
-use Rattle.rulebook.specs.View.{price_of}
-use Rattle.rulebook.proofs.Parts.{entries_part}
+use Prim.Native.Nat.{◌-◌}
+use Rattle.rulebook.specs.Layout.{rule_row_size, price_giver_place}
+use Rattle.rulebook.specs.Rows.{price_of, price_entry}
+use Rattle.rulebook.proofs.Parts.{entries_part, price_bytes}
 use Rattle.rulebook.proofs.layout.Row.prices.Goals as goal
 
 pub returns : goal.returns
-returns c = rw (c.as_chunks.ensures.front, c.from.ensures, c.min-n.ensures) (entries_part price_of c.args.self.bytes.now 5 27 _ (omega arith) (search rules))
+returns c =
+    let row = c.args.self.bytes.now in
+    rw (c.as_chunks.ensures.front, c.from.ensures, c.price_count-n.ensures) (entries_part price_of row (price_giver_place 0) (rule_row_size - price_giver_place 0) _ (price_entry row) (price_bytes row) (omega arith) (search rules))
