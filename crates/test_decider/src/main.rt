@@ -5,20 +5,17 @@
 mod fairness;
 mod family;
 
-use std::io;
+use family::Counts;
 
 // One line with the counts; a disagreement between the two is a mistake in one of them.
-fn main(rt: HostRuntime) -> io::Result<()> {
-    let verdicts = family::verdicts(rt.alloc())?;
-    let exchanges = verdicts.len();
-    let fair = verdicts.iter().filter(|verdict| verdict.fair).count();
-    let disagreements = verdicts
-        .iter()
-        .filter(|verdict| verdict.fair != verdict.settled)
-        .count();
+fn main(rt: HostRuntime) {
+    let Counts {
+        exchanges,
+        fair,
+        disagreements,
+    } = family::total();
     // What cannot be written ends nothing.
     let _ = println!(rt;
         "family: {exchanges} exchanges, {fair} fair, {disagreements} disagreements"
     );
-    Ok(())
 }

@@ -5,8 +5,9 @@
 
 use rulebook::Tables;
 use rulebook::layout::{card_count, rule_count};
-use std::alloc::{AllocError, Global};
-use std::io;
+
+// More bytes than a rule text may have.
+const TEXT_ROOM: usize = 16_400;
 
 // Prints the label, the refusal's number and line, or 0 0 as the file stdout has it, and how many cards and rules there are.
 fn show(rt: &impl Print, label: &str, text: &[u8]) {
@@ -244,8 +245,53 @@ fn misplaced_hyphens(rt: &impl Print) {
     )
 }
 
-fn long_lines(rt: &(impl Print + AllocGlobal)) -> io::Result<()> {
-    let alloc = rt.alloc();
+// A text put together of parts, as far as there is room: more than a text may have. An array, since a String takes memory.
+#[derive(Clone, Copy)]
+struct Text {
+    bytes: [u8; TEXT_ROOM],
+    size: usize,
+}
+
+impl Text {
+    fn new() -> Text {
+        Text {
+            bytes: [0; TEXT_ROOM],
+            size: 0,
+        }
+    }
+
+    fn put(&mut self, part: &[u8]) {
+        let from = self.size.min(TEXT_ROOM);
+        let end = from + part.len().min(TEXT_ROOM - from);
+        self.bytes[from..end].copy_from_slice(&part[..end - from]);
+        self.size = end;
+    }
+
+    fn put_times(&mut self, part: &[u8], times: u32) {
+        for _ in 0..times {
+            self.put(part);
+        }
+    }
+
+    // The lines of cards with the numbers 0, 1, ..: the digits of a number below 100 are where none is doubled, so that the check digit is what
+    // their sum lacks.
+    fn put_cards(&mut self, count: u8) {
+        for number in 0..count {
+            let tens = number / 10 % 10;
+            let ones = number % 10;
+            let check = (21 - tens - ones) % 10;
+            self.put(b"C 7000120");
+            self.put(&[b'0' + tens, b'0', b'0' + ones, b'0', b'0' + check, b'\n']);
+        }
+    }
+
+    fn show(&self, rt: &impl Print, label: &str) {
+        show(rt, label, &self.bytes[..self.size.min(TEXT_ROOM)]);
+    }
+}
+
+// What is first, a piece so many times, and what is last.
+fn long_lines(rt: &impl Print) {
     for (label, first, piece, times, last) in [
         ("9,000 digits and hyphens", "C 1", "-2", 4499, "3\n"),
         ("a hyphen after them", "C 1", "-2", 4499, "-\n"),
@@ -265,29 +311,16 @@ fn long_lines(rt: &(impl Print + AllocGlobal)) -> io::Result<()> {
             "",
         ),
     ] {
-        let pieces = piece.repeat(alloc, times)?;
-        let text = format!(in alloc; "{first}{pieces}{last}")?;
-        show(rt, label, text.as_bytes());
+        let mut text = Text::new();
+        text.put(first.as_bytes());
+        text.put_times(piece.as_bytes(), times);
+        text.put(last.as_bytes());
+        text.show(rt, label);
     }
-    Ok(())
-}
-
-// The lines of cards with the numbers 0, 1, ..: the digits of a number below 100 are where none is doubled, so that the check digit is what
-// their sum lacks.
-fn card_lines(alloc: Global, count: u8) -> Result<String, AllocError> {
-    let mut text = String::new(alloc);
-    for number in 0..count {
-        let tens = number / 10 % 10;
-        let ones = number % 10;
-        let check = (21 - tens - ones) % 10;
-        writeln!(text, "C 7000120{tens}0{ones}0{check}")?;
-    }
-    Ok(text)
 }
 
 // So many cards, a line so many times, and what is last.
-fn limits(rt: &(impl Print + AllocGlobal)) -> io::Result<()> {
-    let alloc = rt.alloc();
+fn limits(rt: &impl Print) {
     for (label, count, line, times, last) in [
         ("32 cards", 32, "", 0, ""),
         ("33 cards", 32, "C 1\n", 1, ""),
@@ -305,15 +338,15 @@ fn limits(rt: &(impl Print + AllocGlobal)) -> io::Result<()> {
         ("16,384 bytes", 2, "G 1 1\n", 2723, "R 1 A a\nR 1 A a\n"),
         ("16,385 bytes", 2, "G 1 1\n", 2723, "R 1 A a\nR 1 A a\n\n"),
     ] {
-        let cards = card_lines(alloc, count)?;
-        let lines = line.repeat(alloc, times)?;
-        let text = format!(in alloc; "{cards}{lines}{last}")?;
-        show(rt, label, text.as_bytes());
+        let mut text = Text::new();
+        text.put_cards(count);
+        text.put_times(line.as_bytes(), times);
+        text.put(last.as_bytes());
+        text.show(rt, label);
     }
-    Ok(())
 }
 
-fn main(rt: HostRuntime) -> io::Result<()> {
+fn main(rt: HostRuntime) {
     forms(&rt);
     numbers(&rt);
     rules(&rt);
@@ -322,6 +355,6 @@ fn main(rt: HostRuntime) -> io::Result<()> {
     printed_groups(&rt);
     printed_twice(&rt);
     misplaced_hyphens(&rt);
-    long_lines(&rt)?;
-    limits(&rt)
+    long_lines(&rt);
+    limits(&rt);
 }
